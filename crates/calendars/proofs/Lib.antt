@@ -1,0 +1,5 @@
+pub mod Answered
+pub mod Counts
+pub mod Firsts
+pub mod Lawfulness
+pub mod Steps

@@ -1,0 +1,30 @@
+// Calendars: which days are open, and the walks and counts over any set of days.
+mod calendar;
+mod day_set;
+mod fault;
+mod law;
+mod listed;
+mod walks;
+mod weekdays;
+
+pub use calendar::Calendar;
+pub use calendar::OpenDays;
+pub use calendar::OpenDaysSet;
+pub use day_set::DaySet;
+pub use fault::ListFault;
+pub use fault::ListFaultDebug;
+pub use fault::ListFaultDisplay;
+pub use fault::ListFaultPartialEq;
+pub use law::count_after_ninth;
+pub use law::keeps_law;
+pub use listed::ListCalendar;
+pub use listed::ListCalendarOpens;
+pub use listed::RefusedList;
+pub use walks::count_between;
+pub use walks::count_left;
+pub use walks::first_between;
+pub use walks::first_in_month;
+pub use walks::next_after;
+pub use walks::with_left;
+pub use weekdays::Weekdays;
+pub use weekdays::WeekdaysOpens;

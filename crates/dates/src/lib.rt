@@ -1,0 +1,16 @@
+// Days and months from 1 January 2000 to 31 December 2099, by number.
+mod date;
+mod months;
+mod weekday;
+
+pub use date::Date;
+pub use date::DateDisplay;
+pub use date::date_of;
+pub use date::day_of;
+pub use months::first_day;
+pub use months::month_length;
+pub use months::month_of;
+pub use weekday::Weekday;
+pub use weekday::WeekdayDisplay;
+pub use weekday::is_weekday;
+pub use weekday::weekday_of;
