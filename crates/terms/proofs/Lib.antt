@@ -1,0 +1,4 @@
+pub mod Sums
+pub mod ClassQuantities
+pub mod Chains
+pub mod Listings

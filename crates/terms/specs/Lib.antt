@@ -1,0 +1,5 @@
+pub mod Meaning
+pub mod Laws
+pub mod Quantities
+pub mod Chain
+pub mod Listing

@@ -1,0 +1,15 @@
+// Terms: which classes there are on a day, and the laws that every product keeps.
+mod class_terms;
+mod quantity;
+mod terms;
+
+pub use class_terms::ClassTerms;
+pub use class_terms::ClassTermsDebug;
+pub use class_terms::ClassTermsPartialEq;
+pub use class_terms::Months;
+pub use class_terms::MonthsDebug;
+pub use class_terms::MonthsPartialEq;
+pub use quantity::quantity_of;
+pub use terms::OpenDaysOfTerms;
+pub use terms::Terms;
+pub use terms::TermsOpenDays;
