@@ -5,7 +5,7 @@ use crate::coded::Coded;
 #[derive(Clone, Copy, PartialEq, Eq, Debug)]
 pub struct ClassLine {
     pub class: u32,
-    pub interval: u32,
+    pub interval: u16,
 }
 
 pub impl Coded for ClassLine as ClassLineCoded {

@@ -71,6 +71,15 @@ month-only d m h =
     (λ l. absurd (omega (arith, h .from, t .to, start-rises (monthOf d + 1) m (omega arith)))))
     (cases-order m (monthOf d))
 
+-- a day before a month's start lies in an earlier month, and a day from its start on in that month or a later one
+pub month-below : (d m : ℕ) → d < start m → monthOf d < m
+month-below d m h =
+    ⊎-elim (λ l. l) (λ l. absurd (omega (arith, month-holds d .from, start-rises m (monthOf d) l))) (cases-lt (monthOf d) m)
+
+pub month-from : (d m : ℕ) → start m ≤ d → m ≤ monthOf d
+month-from d m h =
+    ⊎-elim (λ l. absurd (omega (arith, month-holds d .to, start-rises (monthOf d + 1) m (omega arith)))) (λ l. l) (cases-lt (monthOf d) m)
+
 pub days-and-months : DaysAndMonths
 days-and-months = record { lies = month-holds; only = month-only }
 

@@ -41,17 +41,17 @@ module _ (ch : Chain) (ok : fits ch ≡ true) where
   some-same a b e = cc
 
   -- a class and its successor stand in one chain, and the class's period is the successor's next day
-  pub moved : (own next : ℕ → ℕ) (turns : ℕ → Bool) (c s : ℕ) → c < ch .size → ((k : ℕ) → next k ≡ own k + one (turns k)) → movesUp (turns (ch .kind c)) (ch .earlier c) c ≡ Some s → (s < ch .size) × (ch .kind s ≡ ch .kind c) × (next (ch .kind s) + ch .place s ≡ own (ch .kind c) + ch .place c)
+  pub moved : (own next : ℕ → ℕ) (turns : ℕ → Bool) (c s : ℕ) → c < ch .size → next (ch .kind c) ≡ own (ch .kind c) + one (turns (ch .kind c)) → movesUp (turns (ch .kind c)) (ch .earlier c) c ≡ Some s → (s < ch .size) × (ch .kind s ≡ ch .kind c) × (next (ch .kind s) + ch .place s ≡ own (ch .kind c) + ch .place c)
   moved own next turns c s h step e = go (turns (ch .kind c)) refl e
     where
       go : (b : Bool) → turns (ch .kind c) ≡ b → cond b (ch .earlier c) (Some c) ≡ Some s → (s < ch .size) × (ch .kind s ≡ ch .kind c) × (next (ch .kind s) + ch .place s ≡ own (ch .kind c) + ch .place c)
       go true t q =
           let z = before c s h q in
-          let n : next (ch .kind c) ≡ own (ch .kind c) + 1 = step (ch .kind c) ∙ ap (λ (b : Bool). own (ch .kind c) + one b) t in
+          let n : next (ch .kind c) ≡ own (ch .kind c) + 1 = step ∙ ap (λ (b : Bool). own (ch .kind c) + one b) t in
           (z .0, z .1, omega (arith, ap next (z .1), n, z .2))
       go false t q =
           let z = some-same c s q in
-          let n : next (ch .kind c) ≡ own (ch .kind c) = step (ch .kind c) ∙ ap (λ (b : Bool). own (ch .kind c) + one b) t ∙ add-zero _ in
+          let n : next (ch .kind c) ≡ own (ch .kind c) = step ∙ ap (λ (b : Bool). own (ch .kind c) + one b) t ∙ add-zero _ in
           (subst (λ (x : ℕ). x < ch .size) z h, sym (ap (ch .kind) z), omega (arith, n, ap (λ (x : ℕ). next (ch .kind x)) z, ap (ch .place) z))
 
   -- no two classes have one successor
@@ -59,6 +59,6 @@ module _ (ch : Chain) (ok : fits ch ≡ true) where
   apart turns c e s hc he p q =
       let own : ℕ → ℕ = λ _. 0 in
       let next : ℕ → ℕ = λ k. one (turns k) in
-      let a = moved own next turns c s hc (λ k. omega arith) p in
-      let b = moved own next turns e s he (λ k. omega arith) q in
+      let a = moved own next turns c s hc (omega arith) p in
+      let b = moved own next turns e s he (omega arith) q in
       told c e hc he (sym (a .1) ∙ b .1) (omega (arith, a .2, b .2))

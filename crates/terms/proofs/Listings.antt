@@ -11,7 +11,8 @@ use Rattle.std.specs.declared.option.Option.{Option}
 use Rattle.std.specs.declared.option.Option.the-variants.{Some, None}
 use Rattle.calendars.specs.Calendars.{Lawful}
 use Rattle.calendars.specs.Walks.{Next}
-use Rattle.dates.specs.Dates.{when}
+use Rattle.dates.proofs.MonthLaws.{month-below, month-from}
+use Rattle.dates.specs.Dates.{when, start, monthOf}
 use Rattle.terms.specs.Meaning.{Meaning, answers, sumBelow, anyBelow, one, inMonths, has, monthsOf, tradable, isPart, hasParts, successor}
 use Rattle.terms.specs.Laws.{Laws, InRange, names}
 use Rattle.terms.specs.Listing.{listed, listing}
@@ -23,6 +24,11 @@ pub record Answered (opens : ℕ → Bool) (d : ℕ) : Type 0 where
   pub from : 366 ≤ d
   pub to : d < 35430
   pub opened : opens d ≡ true
+
+-- its month is one of 2001 to 2096
+pub answered-month : (opens : ℕ → Bool) (d : ℕ) → Answered opens d → (12 ≤ monthOf d) × (monthOf d < 1164)
+unfolding start
+answered-month opens d a = (month-from d 12 (a .from), month-below d 1164 (a .to))
 
 module _ (opens : ℕ → Bool) (classes settling : ℕ) (quantity : ℕ → ℕ) (at : ℕ → ℕ → ClassTerms) where
   abbrev w : Meaning

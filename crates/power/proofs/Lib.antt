@@ -1,0 +1,4 @@
+pub mod HourLaws
+pub mod Tables
+pub mod Periods
+pub mod PowerLaws

@@ -1,0 +1,4 @@
+pub mod Hours
+pub mod Classes
+pub mod Power
+pub mod Monthly
