@@ -29,3 +29,22 @@ module _ (f : ℕ → Bool) where
   pub first-is : (a b d : ℕ) → First f a b d → Some d ≡ firstFrom f a (b - a)
   first-is a b d h =
       sym (from-some (b - a) a d (record { from = h .from; to = omega (arith, h .from, h .to); inside = h .inside; none = h .none }))
+
+  -- what the walk finds is in the set, and where it finds nothing no day is
+  pub found : (n a d : ℕ) → firstFrom f a n ≡ Some d → (f d ≡ true) × (d < a + n)
+  unfolding firstFrom
+  found zero a d e = absurd (let z : _≡_ {A = ℕ} 0 1 = cc in omega arith)
+  found (suc n) a d e = step (f a) refl e (found n (suc a) d)
+    where
+      step : (b : Bool) → f a ≡ b → cond b (Some a) (firstFrom f (suc a) n) ≡ Some d → (firstFrom f (suc a) n ≡ Some d → (f d ≡ true) × (d < suc a + n)) → (f d ≡ true) × (d < a + suc n)
+      step true t q rest = let z : a ≡ d = cc in (ap f (sym z) ∙ t, omega arith)
+      step false t q rest = let r = rest q in (r .0, omega (arith, r .1))
+
+  pub none-found : (n a : ℕ) → firstFrom f a n ≡ None → NoneIn f a (a + n)
+  unfolding firstFrom
+  none-found zero a e = λ k l u. absurd (omega arith)
+  none-found (suc n) a e = step (f a) refl e (none-found n (suc a))
+    where
+      step : (b : Bool) → f a ≡ b → cond b (Some a) (firstFrom f (suc a) n) ≡ None → (firstFrom f (suc a) n ≡ None → NoneIn f (suc a) (suc a + n)) → NoneIn f a (a + suc n)
+      step true t q rest = absurd (let z : _≡_ {A = ℕ} 0 1 = cc in omega arith)
+      step false t q rest = λ k l u. ⊎-elim (λ (x : a < k). rest q k x (omega arith)) (λ x. let z : k ≡ a = omega arith in ap f z ∙ t) (cases-lt a k)

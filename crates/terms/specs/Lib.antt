@@ -3,3 +3,4 @@ pub mod Laws
 pub mod Quantities
 pub mod Chain
 pub mod Listing
+pub mod Heirs

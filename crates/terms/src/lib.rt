@@ -1,5 +1,6 @@
 // Terms: which classes there are on a day, and the laws that every product keeps.
 mod class_terms;
+mod handover;
 mod quantity;
 mod terms;
 
@@ -9,6 +10,7 @@ pub use class_terms::ClassTermsPartialEq;
 pub use class_terms::Months;
 pub use class_terms::MonthsDebug;
 pub use class_terms::MonthsPartialEq;
+pub use handover::heir;
 pub use quantity::quantity_of;
 pub use terms::OpenDaysOfTerms;
 pub use terms::Terms;

@@ -1,0 +1,2 @@
+pub mod DayByDay
+pub mod ReadOn
