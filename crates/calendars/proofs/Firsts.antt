@@ -23,6 +23,10 @@ module _ (f : ℕ → Bool) where
       (λ l. let e : a ≡ d = omega (arith, h .from) in rw (ap f e ∙ h .inside) (ap Some e))
       (cases-lt a d)
 
+  pub none-more : (a d : ℕ) → NoneIn f a d → f d ≡ false → NoneIn f a (d + 1)
+  none-more a d h e k l u =
+      ⊎-elim (λ (x : k < d). h k l x) (λ x. let z : k ≡ d = omega arith in ap f z ∙ e) (cases-lt k d)
+
   pub none-is : (a b : ℕ) → NoneIn f a b → None ≡ firstFrom f a (b - a)
   none-is a b h = sym (from-none (b - a) a (λ k l u. h k l (omega arith)))
 

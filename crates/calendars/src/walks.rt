@@ -1,12 +1,19 @@
 // Counts and walks over a set of days.
 ghost use mathlib.Core.Path.{_≡_};
-ghost use mathlib.Core.Bool.{_&&_};
+ghost use mathlib.Core.Bool.{cond};
 ghost use Prim.Native.Nat.{ℕ, _+_, _-_, _<_, _≤_};
 ghost use denote.Ref.{now};
+ghost use Rattle.dates.specs.Dates.{when};
 ghost use Rattle.std.specs.Options.{Cases};
 ghost use Rattle.calendars.specs.Sets.{between};
 ghost use Rattle.calendars.specs.Walks.{firstFrom, First, NoneIn, Next, nextAfter, firstInMonth, leftIn, leaves, withLeft};
 use crate::day_set::DaySet;
+
+fn one_if_in<S: DaySet>(days: &S, day: u32) -> u32
+    ensures { λ r. ⌜ r ≡ cond (has (now (days .entry)) day) 1 0 ⌝ }
+{
+    if days.contains(day) { 1 } else { 0 }
+}
 
 // How many days of the set there are from a day on, before another.
 pub fn count_between<S: DaySet>(days: &S, from: u32, to: u32) -> u32
@@ -18,11 +25,15 @@ pub fn count_between<S: DaySet>(days: &S, from: u32, to: u32) -> u32
     }
     let mut count = 0;
     for day in from..to {
-        if days.contains(day) {
-            count += 1;
-        }
+        count += one_if_in(days, day);
     }
     count
+}
+
+fn itself_if_in<S: DaySet>(days: &S, day: u32) -> Option<u32>
+    ensures { λ r. ⌜ r ≡ when (has (now (days .entry)) day) day ⌝ }
+{
+    if days.contains(day) { Some(day) } else { None }
 }
 
 // The first day of the set from a day on, before another.
@@ -34,8 +45,8 @@ pub fn first_between<S: DaySet>(days: &S, from: u32, to: u32) -> Option<u32>
         return None;
     }
     for day in from..to {
-        if days.contains(day) {
-            return Some(day);
+        if let Some(found) = itself_if_in(days, day) {
+            return Some(found);
         }
     }
     None
@@ -61,6 +72,14 @@ pub fn first_in_month<S: DaySet>(days: &S, month: u32) -> Option<u32>
     first_between(days, first, first + length)
 }
 
+fn count_after<S: DaySet>(days: &S, day: u32, end: u32) -> u32
+    requires { ⌜ day < 36525 ⌝ }
+    ensures is { λ r. ⌜ r ≡ between (has (now (days .entry))) (day + 1) end ⌝ }
+    ensures bound { λ r. ⌜ r ≤ end - (day + 1) ⌝ }
+{
+    count_between(days, day + 1, end)
+}
+
 // How many days of the set come after a day within its month.
 pub fn count_left<S: DaySet>(days: &S, day: u32) -> Option<u32>
     ensures is { λ r. ⌜ r ≡ leftIn (has (now (days .entry))) day ⌝ }
@@ -69,7 +88,7 @@ pub fn count_left<S: DaySet>(days: &S, day: u32) -> Option<u32>
     let month = dates::month_of(day)?;
     let first = dates::first_day(month)?;
     let length = dates::month_length(month)?;
-    Some(count_between(days, day + 1, first + length))
+    Some(count_after(days, day, first + length))
 }
 
 // The days of a set after which so many more come within the month.

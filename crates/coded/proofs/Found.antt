@@ -8,10 +8,13 @@ use native.Mathlib.Omega.{arith}
 use lib.Dec.{eqb}
 use lib.ListN.{length, getD}
 use Rattle.std.proofs.shelf.Tests.{eq-eqb, ne-eqb, cases-lt, cases-order}
+use Rattle.std.proofs.shelf.Ways.{tells}
 use Rattle.std.specs.Options.{mapped}
 use Rattle.std.specs.declared.option.Option.{Option}
 use Rattle.std.specs.declared.option.Option.the-variants.{Some, None}
 use Rattle.coded.specs.Places.{Rising, place}
+use Rattle.coded.specs.Probes.{probed}
+use Rattle.coded.specs.declared.search.Probe.the-variants.{Before, Here, After}
 
 pub place-none : (xs : List ℕ) (c : ℕ) → ((k : ℕ) → k < length xs → getD xs k 0 ≡ c → ⊥) → place xs c ≡ None
 unfolding place
@@ -25,6 +28,16 @@ place-some [] c i l e h = absurd (omega arith)
 place-some (x ∷ xs) c zero l e h = rw (eq-eqb x c e)
 place-some (x ∷ xs) c (suc i) l e h =
     rw (ne-eqb x c (h 0 (omega arith)), place-some xs c i (omega arith) e (λ k l. h (suc k) (omega arith)))
+
+-- what a probe says
+pub was-here : (x c : ℕ) → probed x c ≡ Here → x ≡ c
+was-here x c e = grind (arith, tells)
+
+pub was-before : (x c : ℕ) → probed x c ≡ Before → x < c
+was-before x c e = grind (arith, tells)
+
+pub was-after : (x c : ℕ) → probed x c ≡ After → c < x
+was-after x c e = grind (arith, tells)
 
 -- what the search knows of a list whose codes rise: the code stands neither below low nor from high on
 pub record Narrowed (xs : List ℕ) (c low high : ℕ) : Type 0 where

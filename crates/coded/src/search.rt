@@ -5,13 +5,36 @@ ghost use lib.ListN.{length, getD};
 ghost use Prim.Native.Nat.{ℕ, _<_};
 ghost use Rattle.std.specs.Options.{Cases};
 ghost use Rattle.coded.specs.Places.{Rising, place};
+ghost use Rattle.coded.specs.Probes.{probed};
 use crate::coded::Coded;
+
+// Where a code stands beside the one that is sought.
+enum Probe {
+    Before,
+    Here,
+    After,
+}
 
 fn code_at<E: Coded>(entries: &[E], i: usize) -> u32
     requires { ⌜ i < length (now entries) ⌝ }
     ensures { λ r. ⌜ r ≡ getD (map number (now (entries .entry))) i 0 ⌝ }
 {
     entries[i].code()
+}
+
+// Whether the code at a place comes before the one that is sought, is it, or comes after it.
+fn look<E: Coded>(entries: &[E], i: usize, code: u32) -> Probe
+    requires { ⌜ i < length (now entries) ⌝ }
+    ensures { λ r. ⌜ r ≡ probed (getD (map number (now (entries .entry))) i 0) code ⌝ }
+{
+    let here = code_at(entries, i);
+    if here == code {
+        Probe::Here
+    } else if here < code {
+        Probe::Before
+    } else {
+        Probe::After
+    }
 }
 
 // The place of the entry that has the code. Where the codes rise, it is the one place that has it, or none has; in any
@@ -24,14 +47,10 @@ pub fn find<E: Coded>(entries: &[E], code: u32) -> Option<usize>
     let mut high = entries.len();
     while low < high {
         let middle = low + (high - low) / 2;
-        let here = code_at(entries, middle);
-        if here == code {
-            return Some(middle);
-        }
-        if here < code {
-            low = middle + 1;
-        } else {
-            high = middle;
+        match look(entries, middle, code) {
+            Probe::Here => return Some(middle),
+            Probe::Before => low = middle + 1,
+            Probe::After => high = middle,
         }
     }
     None

@@ -8,7 +8,7 @@ use Rattle.std.proofs.shelf.Tests.{and-from, and-parts, le-leb, lt-ltb, leb-tru
 use Rattle.std.specs.declared.option.Option.{Option}
 use Rattle.std.specs.declared.option.Option.the-variants.{Some, None}
 use Rattle.dates.specs.Dates.{when, daysIn, start, monthOf, InMonth, monthOfDay, firstDay}
-use Rattle.dates.specs.Written.{dateOf, monthOfDate, isDate, dayOf, DatesAndDays}
+use Rattle.dates.specs.Written.{dateIn, dateOf, monthOfDate, isDate, dayOf, DatesAndDays}
 use Rattle.dates.specs.declared.date.Date.{Date}
 use Rattle.dates.proofs.MonthLaws.{start-next, start-inside, month-holds, month-only, month-range, given, told}
 
@@ -41,14 +41,11 @@ date-fits x e =
       day-to = leb-true _ _ (f .1);
     }
 
-abbrev written : ℕ → ℕ → Date
-written m n = record { year = 2000 + m / 12; month = m % 12 + 1; day = n + 1 }
-
--- the day of the n-th day of a month, counted from 0
-written-day : (m n : ℕ) → m < 1200 → n < daysIn m → dayOf (written m n) ≡ Some (start m + n)
-written-day m n h k =
+-- the day of the n-th day of a month
+day-in : (m n : ℕ) → m < 1200 → n < daysIn m → dayOf (dateIn m n) ≡ Some (start m + n)
+day-in m n h k =
     let e : 12 * (2000 + m / 12 - 2000) + (m % 12 + 1 - 1) ≡ m = omega arith in
-    let fits : Fits (written m n) = record {
+    let fits : Fits (dateIn m n) = record {
       year-from = omega arith;
       year-to = omega arith;
       month-from = omega arith;
@@ -57,16 +54,16 @@ written-day m n h k =
       day-to = rw e (omega arith);
     } in
     let f : n + 1 - 1 ≡ n = omega arith in
-    rw (is-date (written m n) fits, e, f)
+    rw (is-date (dateIn m n) fits, e, f)
 
 there : (d : ℕ) (x : Date) → dateOf d ≡ Some x → dayOf x ≡ Some d
 there d x e =
-    let t = told (ltb d 36525) x (written (monthOf d) (d - start (monthOf d))) (sym e) in
+    let t = told (ltb d 36525) x (dateIn (monthOf d) (d - start (monthOf d))) (sym e) in
     let h = month-holds d in
     let r = month-range (monthOf d) d (h .from) (ltb-true d 36525 (t .0)) in
     let n = start-next (monthOf d) in
     let back : start (monthOf d) + (d - start (monthOf d)) ≡ d = omega (arith, h .from) in
-    rw (t .1) (written-day (monthOf d) (d - start (monthOf d)) r (omega (arith, h .from, h .to)) ∙ ap Some back)
+    rw (t .1) (day-in (monthOf d) (d - start (monthOf d)) r (omega (arith, h .from, h .to)) ∙ ap Some back)
 
 back : (x : Date) (d : ℕ) → dayOf x ≡ Some d → dateOf d ≡ Some x
 back x d e =
@@ -80,15 +77,15 @@ back x d e =
     let y : 2000 + m / 12 ≡ x .year = omega (arith, f .year-from, f .month-from, f .month-to) in
     let o : m % 12 + 1 ≡ x .month = omega (arith, f .year-from, f .month-from, f .month-to) in
     let n : d - start m + 1 ≡ x .day = omega (arith, t .1, f .day-from) in
-    let same : written m (d - start m) ≡ x = λ i. record { year = y i; month = o i; day = n i } in
-    sym (given d 36525 x (written (monthOf d) (d - start (monthOf d))) (omega (arith, t .1, f .day-to, f .day-from)) (sym same ∙ ap (λ k. written k (d - start k)) is))
+    let same : dateIn m (d - start m) ≡ x = λ i. record { year = y i; month = o i; day = n i } in
+    sym (given d 36525 x (dateIn (monthOf d) (d - start (monthOf d))) (omega (arith, t .1, f .day-to, f .day-from)) (sym same ∙ ap (λ k. dateIn k (d - start k)) is))
 
 pub dates-and-days : DatesAndDays
 dates-and-days = record { there = there; back = back }
 
 -- the date of a day, from the answers on its month
-pub date-answer : (d m f : ℕ) → Some m ≡ monthOfDay d → Some f ≡ firstDay m → Some (written m (d - f)) ≡ dateOf d
+pub date-answer : (d m f : ℕ) → Some m ≡ monthOfDay d → Some f ≡ firstDay m → Some (dateIn m (d - f)) ≡ dateOf d
 date-answer d m f e g =
     let a = told (ltb d 36525) m (monthOf d) e in
     let b = told (ltb m 1200) f (start m) g in
-    given d 36525 (written m (d - f)) (written (monthOf d) (d - start (monthOf d))) (ltb-true d 36525 (a .0)) (ap (λ k. written m (d - k)) (b .1) ∙ ap (λ k. written k (d - start k)) (a .1))
+    given d 36525 (dateIn m (d - f)) (dateIn (monthOf d) (d - start (monthOf d))) (ltb-true d 36525 (a .0)) (ap (λ k. dateIn m (d - k)) (b .1) ∙ ap (λ k. dateIn k (d - start k)) (a .1))

@@ -153,6 +153,10 @@ pub told : {A : Type 0} (b : Bool) (x y : A) → Some x ≡ when b y → (b ≡ 
 told true x y e = (refl, cc)
 told false x y e = absurd (let z : _≡_ {A = ℕ} 0 1 = cc in omega arith)
 
+pub not-told : {A : Type 0} (b : Bool) (y : A) → when b y ≡ None → b ≡ false
+not-told true y e = absurd (let z : _≡_ {A = ℕ} 0 1 = cc in omega arith)
+not-told false y e = refl
+
 -- the days of a month, from the answers on its first day and its length
 pub month-told : (m a n : ℕ) → Some a ≡ firstDay m → Some n ≡ monthLength m → (m < 1200) × (a ≡ start m) × (a + n ≡ start (m + 1))
 month-told m a n e f =

@@ -12,10 +12,12 @@ use Rattle.std.specs.declared.option.Option.the-variants.{Some, None}
 use Rattle.dates.specs.Dates.{when, daysIn, start, monthOf}
 use Rattle.dates.specs.declared.date.Date.{Date}
 
+-- the date of the n-th day of a month, counted from 0
+abbrev pub dateIn : ℕ → ℕ → Date
+dateIn m n = record { year = 2000 + m / 12; month = m % 12 + 1; day = n + 1 }
+
 abbrev pub dateOf : ℕ → Option Date
-dateOf d =
-    let m = monthOf d in
-    when (ltb d 36525) (record { year = 2000 + m / 12; month = m % 12 + 1; day = d - start m + 1 })
+dateOf d = when (ltb d 36525) (dateIn (monthOf d) (d - start (monthOf d)))
 
 -- the month of a date, where its year and month are of the range
 abbrev pub monthOfDate : Date → ℕ

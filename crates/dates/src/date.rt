@@ -1,7 +1,8 @@
 // Dates as people write them.
 ghost use mathlib.Core.Path.{_≡_};
+ghost use Prim.Native.Nat.{_-_, _<_, _≤_};
 ghost use Rattle.std.specs.declared.option.Option.the-variants.{Some};
-ghost use Rattle.dates.specs.Written.{dateOf, dayOf, monthName, dateText, DatesAndDays};
+ghost use Rattle.dates.specs.Written.{dateIn, dateOf, dayOf, monthName, dateText, DatesAndDays};
 use crate::months::first_day;
 use crate::months::month_length;
 use crate::months::month_of;
@@ -15,6 +16,18 @@ pub struct Date {
     pub day: u32,
 }
 
+// The date of a day of a month with this first day.
+fn date_in(month: u32, first: u32, day: u32) -> Date
+    requires { ⌜ month < 1200 ⌝ ∗ ⌜ first ≤ day ⌝ ∗ ⌜ day < 36525 ⌝ }
+    ensures { λ r. ⌜ r ≡ dateIn month (day - first) ⌝ }
+{
+    Date {
+        year: 2000 + month / 12,
+        month: month % 12 + 1,
+        day: day - first + 1,
+    }
+}
+
 // The date of a day.
 pub fn date_of(day: u32) -> Option<Date>
     ensures is { λ r. ⌜ r ≡ dateOf day ⌝ }
@@ -22,11 +35,7 @@ pub fn date_of(day: u32) -> Option<Date>
 {
     let month = month_of(day)?;
     let first = first_day(month)?;
-    Some(Date {
-        year: 2000 + month / 12,
-        month: month % 12 + 1,
-        day: day - first + 1,
-    })
+    Some(date_in(month, first, day))
 }
 
 // The day of a date, if there is such a date from 2000 to 2099.
@@ -45,7 +54,8 @@ pub fn day_of(date: Date) -> Option<u32>
     Some(first + (date.day - 1))
 }
 
-fn month_name(month: u32) -> &'static str
+// The name of a month by its number in the year, 1 to 12.
+pub fn month_name(month: u32) -> &'static str
     ensures { λ r. ⌜ now r ≡ monthName month ⌝ }
 {
     match month {

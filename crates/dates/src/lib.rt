@@ -7,6 +7,7 @@ pub use date::Date;
 pub use date::DateDisplay;
 pub use date::date_of;
 pub use date::day_of;
+pub use date::month_name;
 pub use months::first_day;
 pub use months::month_length;
 pub use months::month_of;

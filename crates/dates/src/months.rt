@@ -2,7 +2,7 @@
 ghost use mathlib.Core.Path.{_≡_};
 ghost use Prim.Native.Nat.{ℕ, _+_, _*_, _/_, _%_, _<_, _≤_};
 ghost use Rattle.std.specs.Options.{Cases};
-ghost use Rattle.dates.specs.Dates.{daysIn, start, monthOfDay, firstDay, monthLength, InMonth, DaysAndMonths};
+ghost use Rattle.dates.specs.Dates.{daysIn, start, monthOf, monthOfDay, firstDay, monthLength, InMonth, DaysAndMonths};
 
 // The days of each month of a common year.
 const LENGTHS: [u32; 12] = [31, 28, 31, 30, 31, 30, 31, 31, 30, 31, 30, 31];
@@ -36,6 +36,16 @@ fn cycle_month(day: u32) -> u32
     if cycle_start(least + 1) <= day { least + 1 } else { least }
 }
 
+// The month of a day of the range.
+fn month_in_range(day: u32) -> u32
+    requires { ⌜ day < 36525 ⌝ }
+    ensures is { λ r. ⌜ r ≡ monthOf day ⌝ }
+    ensures inside { λ r. ⌜ InMonth day r × (r < 1200) ⌝ }
+    ensures law { λ _. ⌜ DaysAndMonths ⌝ }
+{
+    CYCLE_MONTHS * (day / CYCLE_DAYS) + cycle_month(day % CYCLE_DAYS)
+}
+
 // The month of a day.
 pub fn month_of(day: u32) -> Option<u32>
     ensures is { λ r. ⌜ r ≡ monthOfDay day ⌝ }
@@ -45,7 +55,16 @@ pub fn month_of(day: u32) -> Option<u32>
     if day >= 36_525 {
         return None;
     }
-    Some(CYCLE_MONTHS * (day / CYCLE_DAYS) + cycle_month(day % CYCLE_DAYS))
+    Some(month_in_range(day))
+}
+
+// How many days of the range come before a month.
+fn days_before(month: u32) -> u32
+    requires { ⌜ month < 1200 ⌝ }
+    ensures is { λ r. ⌜ r ≡ start month ⌝ }
+    ensures inside { λ r. ⌜ r + daysIn month ≤ 36525 ⌝ }
+{
+    CYCLE_DAYS * (month / CYCLE_MONTHS) + cycle_start(month % CYCLE_MONTHS)
 }
 
 // The first day of a month.
@@ -56,7 +75,7 @@ pub fn first_day(month: u32) -> Option<u32>
     if month >= 1200 {
         return None;
     }
-    Some(CYCLE_DAYS * (month / CYCLE_MONTHS) + cycle_start(month % CYCLE_MONTHS))
+    Some(days_before(month))
 }
 
 // How many days a month has.

@@ -21,7 +21,7 @@ peakload-bounded m h =
     let y = weekdays-before (start (m + 1)) (omega arith) in
     omega arith
 
-pub peakload-answer : (m a n x : ℕ) → Some a ≡ firstDay m → Some n ≡ monthLength m → x ≡ between weekdays a (a + n) → Some (12 * x) ≡ when (ltb m 1200) (peakload m)
+pub peakload-answer : (m a n x : ℕ) → Some a ≡ firstDay m → Some n ≡ monthLength m → x ≡ 12 * between weekdays a (a + n) → Some x ≡ when (ltb m 1200) (peakload m)
 peakload-answer m a n x first length e =
     let t = month-told m a n first length in
-    given m 1200 (12 * x) (peakload m) (t .0) (ap (λ k. 12 * k) (e ∙ ap (λ k. between weekdays k (a + n)) (t .1) ∙ ap (between weekdays (start m)) (t .2)))
+    given m 1200 x (peakload m) (t .0) (e ∙ ap (λ k. 12 * between weekdays k (a + n)) (t .1) ∙ ap (λ k. 12 * between weekdays (start m) k) (t .2))

@@ -1,8 +1,10 @@
 // The hours of a month, by load profile.
 ghost use mathlib.Core.Path.{_≡_};
 ghost use mathlib.Core.Bool.{Bool, true, false};
-ghost use Prim.Native.Nat.{ℕ};
+ghost use Prim.Native.Nat.{ℕ, _+_, _*_, _≤_};
 ghost use lib.Dec.{ltb};
+ghost use Rattle.calendars.specs.Calendars.{weekdays};
+ghost use Rattle.calendars.specs.Sets.{between};
 ghost use Rattle.dates.specs.Dates.{when};
 ghost use Rattle.power.specs.Hours.{baseload, peakload, Bounded};
 use calendars::OpenDays;
@@ -48,6 +50,17 @@ pub impl Profile for Baseload as BaseloadHours {
     }
 }
 
+// Twelve hours for each Monday to Friday from a day on, before another.
+fn peak_hours(from: u32, to: u32) -> u32
+    requires { ⌜ from ≤ to ⌝ ∗ ⌜ to ≤ from + 31 ⌝ }
+    ensures { λ r. ⌜ r ≡ 12 * between weekdays from to ⌝ }
+{
+    let weekdays = OpenDays {
+        calendar: &Weekdays,
+    };
+    12 * calendars::count_between(&weekdays, from, to)
+}
+
 // Twelve hours of each Monday to Friday.
 #[derive(Clone, Copy)]
 pub struct Peakload;
@@ -60,10 +73,7 @@ pub impl Profile for Peakload as PeakloadHours {
     fn hours_of(&self, month: u32) -> Option<u32> {
         let first = dates::first_day(month)?;
         let length = dates::month_length(month)?;
-        let weekdays = OpenDays {
-            calendar: &Weekdays,
-        };
-        Some(12 * calendars::count_between(&weekdays, first, first + length))
+        Some(peak_hours(first, first + length))
     }
 
     fn trades_second_year(&self) -> bool {

@@ -1,10 +1,18 @@
 // The quantity of a class: that of its months together.
 ghost use mathlib.Core.Path.{_≡_};
 ghost use Prim.Native.Nat.{_*_, _≤_};
+ghost use lib.Dec.{ltb};
+ghost use Rattle.dates.specs.Dates.{when};
+ghost use Rattle.std.specs.Options.{valueOr};
 ghost use Rattle.terms.specs.Meaning.{classQuantity};
 ghost use Rattle.terms.specs.Quantities.{PartsAndSuccessors};
-use crate::class_terms::ClassTerms;
 use crate::terms::Terms;
+
+fn month_or_none<T: Terms>(terms: &T, month: u32) -> u32
+    ensures { λ r. ⌜ r ≡ valueOr (when (ltb month 1200) (meaning (now (terms .entry)) .quantity month)) 0 ⌝ }
+{
+    terms.month_quantity(month).unwrap_or(0)
+}
 
 // The quantity of one lot in a class on a day; 0 where terms do not answer. For all terms, a class with parts has as
 // much as its parts together, and a successor as much as the class that it succeeds.
@@ -19,7 +27,7 @@ pub fn quantity_of<T: Terms>(terms: &T, day: u32, class: u32) -> u32
     let first = class.months.first;
     let mut sum = 0;
     for i in 0..class.months.count {
-        sum += terms.month_quantity(first + i).unwrap_or(0);
+        sum += month_or_none(terms, first + i);
     }
     sum
 }

@@ -14,6 +14,6 @@ returns g c =
     let first = c .in-Continue-first .ensures tt .is in
     let length = c .in-Continue-length .ensures tt .is in
     record {
-      is = ap Some (c .count-between .ensures .is) ∙ left-in f m a n first length (c .args .day) (c .in-Continue-month .ensures tt .is);
-      bound = omega (arith, c .count-between .ensures .bound, month-told m a n first length, c .in-Continue-month .ensures tt .inside .0 .from, c .in-Continue-length .ensures tt .bound);
+      is = ap Some (c .count-after .ensures .is) ∙ left-in f m a n first length (c .args .day) (c .in-Continue-month .ensures tt .is);
+      bound = omega (arith, c .count-after .ensures .bound, month-told m a n first length, c .in-Continue-month .ensures tt .inside .0 .from, c .in-Continue-length .ensures tt .bound);
     }

@@ -1,4 +1,5 @@
-use mathlib.Core.Path.{_∙_}
+use mathlib.Core.Path.{ap, _∙_}
+use Rattle.std.specs.declared.option.Option.the-variants.{Some}
 use Rattle.dates.proofs.MonthLaws.{not-given}
 use Rattle.dates.proofs.DateLaws.{dates-and-days, date-answer}
 use Rattle.dates.proofs.date.date_of.Needs as need
@@ -9,6 +10,6 @@ returns-in-Break-month c =
 
 pub returns : need.returns
 returns c = record {
-  is = date-answer (c .args .day) (c .in-Continue-month .month) (c .in-Continue-first .first) (c .in-Continue-month .ensures tt .is) (c .in-Continue-first .ensures tt .is);
+  is = ap Some (c .date-in .ensures) ∙ date-answer (c .args .day) (c .in-Continue-month .month) (c .in-Continue-first .first) (c .in-Continue-month .ensures tt .is) (c .in-Continue-first .ensures tt .is);
   law = dates-and-days;
 }

@@ -1,7 +1,6 @@
 use mathlib.Core.Path.{_≡_, sym, ap, _∙_}
 use Prim.Native.Nat.{_+_}
 use native.Mathlib.Omega.{arith}
-use Rattle.std.specs.Options.{valueOr}
 use Rattle.std.specs.declared.option.Option.the-variants.{Some}
 use Rattle.terms.specs.Meaning.{sumBelow, classQuantity}
 use Rattle.terms.proofs.ClassQuantities.{class-sum, no-quantity, month-read, parts-and-successors}
@@ -28,7 +27,7 @@ add-sum g c =
     let q = g .T·Terms .meaning (c .args .terms .now) .quantity in
     let m = c .in-Some .class .months .first + c .loop-i .i in
     let r = law .ranges _ _ _ (sym (c .class-on .ensures) ∙ c .in-Some .is) in
-    let v : c .unwrap-or-sum .result ≡ q m = c .unwrap-or-sum .ensures ∙ ap (λ o. valueOr o 0) (c .month-quantity .ensures) ∙ month-read q m (omega (arith, r .last)) in
+    let v : c .month-or-none-sum .result ≡ q m = c .month-or-none-sum .ensures ∙ month-read q m (omega (arith, r .last)) in
     omega (arith, v, law .quantities m (omega (arith, r .last)), r .few)
 
 pub loop-i-again : need.loop-i-again
@@ -38,7 +37,7 @@ loop-i-again g c =
     let a = c .in-Some .class .months .first in
     let m = a + c .loop-i .i in
     let r = law .ranges _ _ _ (sym (c .class-on .ensures) ∙ c .in-Some .is) in
-    let v : c .unwrap-or-sum .result ≡ q m = c .unwrap-or-sum .ensures ∙ ap (λ o. valueOr o 0) (c .month-quantity .ensures) ∙ month-read q m (omega (arith, r .last)) in
+    let v : c .month-or-none-sum .result ≡ q m = c .month-or-none-sum .ensures ∙ month-read q m (omega (arith, r .last)) in
     let more = sum-more (c .loop-i .i) (λ i. q (a + i)) in
     (omega (arith, v, more, c .loop-i .inv .0), omega (arith, v, law .quantities m (omega (arith, r .last)), c .loop-i .inv .1))
 

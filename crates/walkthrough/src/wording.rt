@@ -1,0 +1,32 @@
+// Days and months in words.
+use dates::DateDisplay;
+use dates::WeekdayDisplay;
+use std::alloc::AllocError;
+use std::alloc::Global;
+
+// A day, as in Wednesday 26 March 2008.
+pub fn day_text(heap: Global, day: u32) -> Result<String, AllocError> {
+    let weekday = dates::weekday_of(day);
+    match dates::date_of(day) {
+        Some(date) => format!(heap, "{weekday} {date}"),
+        None => format!(heap, "day {day}"),
+    }
+}
+
+pub fn optional_day_text(heap: Global, day: Option<u32>) -> Result<String, AllocError> {
+    match day {
+        Some(day) => day_text(heap, day),
+        None => format!(heap, "none"),
+    }
+}
+
+// A month, as in March 2008.
+pub fn month_text(heap: Global, month: u32) -> Result<String, AllocError> {
+    let name = dates::month_name(month % 12 + 1);
+    let year = month / 12;
+    if year > 99 {
+        return format!(heap, "month {month}");
+    }
+    let year = 2000 + year;
+    format!(heap, "{name} {year}")
+}
