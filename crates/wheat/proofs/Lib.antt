@@ -1,0 +1,4 @@
+mod ExpiryMonths
+mod LastDays
+mod FrontLaws
+mod WheatLaws

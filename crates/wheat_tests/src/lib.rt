@@ -1,0 +1,3 @@
+// Durum wheat by example, over the weekday calendar.
+#[cfg(test)]
+mod tests;
