@@ -1,0 +1,5 @@
+pub mod Ring
+pub mod Sums
+pub mod Exact
+pub mod MarginLaws
+pub mod PaymentLaws

@@ -1,0 +1,3 @@
+// Margins and payments by example.
+#[cfg(test)]
+mod tests;

@@ -1,0 +1,4 @@
+mod day_tests;
+mod find_tests;
+mod list_tests;
+mod walk_tests;

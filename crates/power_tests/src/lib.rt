@@ -1,0 +1,3 @@
+// Examples for power terms.
+#[cfg(test)]
+mod tests;

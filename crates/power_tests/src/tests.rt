@@ -1,0 +1,3 @@
+mod class_tests;
+mod holiday_tests;
+mod hour_tests;
