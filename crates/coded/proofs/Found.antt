@@ -14,7 +14,7 @@ use Rattle.std.specs.declared.option.Option.{Option}
 use Rattle.std.specs.declared.option.Option.the-variants.{Some, None}
 use Rattle.coded.specs.Places.{Rising, place}
 use Rattle.coded.specs.Probes.{probed}
-use Rattle.coded.specs.declared.search.Probe.the-variants.{Before, Here, After}
+use Rattle.coded.specs.declared.finding.Probe.the-variants.{Before, Here, After}
 
 pub place-none : (xs : List ℕ) (c : ℕ) → ((k : ℕ) → k < length xs → getD xs k 0 ≡ c → ⊥) → place xs c ≡ None
 unfolding place

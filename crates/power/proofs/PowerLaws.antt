@@ -27,7 +27,7 @@ use Rattle.power.specs.Power.{leftOf, own, turns, classFrom, powerClass, power
 use Rattle.terms.proofs.Chains.{moved, apart}
 use Rattle.terms.proofs.Listings.{Answered, answered-month, Kept, laws, on-answered}
 use Rattle.terms.specs.Chain.{movesUp}
-use Rattle.terms.specs.Listing.{listed}
+use Rattle.terms.specs.Listing.{answersFor}
 use Rattle.terms.specs.Laws.{Laws, InRange, names}
 use Rattle.terms.specs.Meaning.{sumBelow, anyBelow, one, inMonths, isPart, hasParts}
 use Rattle.terms.specs.declared.class_terms.Months.{Months}
@@ -187,7 +187,7 @@ pub power-laws : (f : ℕ → Bool) (q : ℕ → ℕ) (second : Bool) → Lawful
 power-laws f q second law bounded = laws f 11 10 q (powerClass f second) (kept f law second q bounded)
 
 -- the code's answer, from the day's month and the open days left in it
-pub class-answer : (f : ℕ → Bool) (second : Bool) (d c m l : ℕ) → Lawful f → Answered f d → c < 11 → Some m ≡ monthOfDay d → Some l ≡ leftIn f d → Some (classBy m l second c) ≡ when (listed f 11 d c) (powerClass f second d c)
+pub class-answer : (f : ℕ → Bool) (second : Bool) (d c m l : ℕ) → Lawful f → Answered f d → c < 11 → Some m ≡ monthOfDay d → Some l ≡ leftIn f d → Some (classBy m l second c) ≡ when (answersFor f 11 d c) (powerClass f second d c)
 class-answer f second d c m l law a h month left-in =
     let r = answered-month f d a in
     let x = told (ltb d 36525) m (monthOf d) month .1 in

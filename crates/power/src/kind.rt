@@ -5,6 +5,11 @@ ghost use Prim.Native.Nat.{ℕ, _<_, _≤_};
 ghost use Rattle.std.specs.Options.{mapped};
 ghost use Rattle.power.specs.Classes.{lengthOf, placeOf, earlier, className};
 
+pub(crate) const CLASSES: u32 = 11;
+
+// The settling class.
+pub(crate) const D02: u32 = 10;
+
 // How long a class's period is.
 #[derive(Clone, Copy, PartialEq, Eq, Debug)]
 pub(crate) enum Kind {

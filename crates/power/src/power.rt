@@ -2,6 +2,8 @@
 ghost use mathlib.Core.Path.{_≡_};
 ghost use Rattle.power.specs.Power.{power};
 use crate::class::class_at;
+use crate::kind::CLASSES;
+use crate::kind::D02;
 use crate::hours::Profile;
 use calendars::Calendar;
 use calendars::OpenDays;
@@ -20,11 +22,11 @@ pub impl<C: Calendar, P: Profile> Terms for Power<C, P> as PowerTerms {
     ghost meaning = { λ p. power (C·Calendar .opens (p .calendar)) (P·Profile .hours (p .profile)) (P·Profile .second (p .profile)) };
 
     fn classes(&self) -> u32 {
-        11
+        CLASSES
     }
 
     fn settling(&self) -> u32 {
-        10
+        D02
     }
 
     fn is_open(&self, day: u32) -> bool {
@@ -36,7 +38,7 @@ pub impl<C: Calendar, P: Profile> Terms for Power<C, P> as PowerTerms {
     }
 
     fn class_on(&self, day: u32, class: u32) -> Option<ClassTerms> {
-        if day < 366 || day >= 35_430 || class >= 11 || !self.calendar.is_open(day) {
+        if !terms::answers_for(&self.calendar, CLASSES, day, class) {
             return None;
         }
         let month = dates::month_of(day)?;

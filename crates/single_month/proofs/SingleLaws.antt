@@ -15,16 +15,10 @@ use Rattle.dates.proofs.MonthLaws.{days-bounds}
 use Rattle.dates.specs.Dates.{daysIn, monthOf}
 use Rattle.single_month.specs.Single.{chain, classIn, single}
 use Rattle.terms.proofs.Chains.{moved, apart}
-use Rattle.terms.proofs.Listings.{answered-month, Kept, laws}
+use Rattle.terms.proofs.Listings.{no-part, answered-month, Kept, laws}
 use Rattle.terms.specs.Laws.{Laws}
 use Rattle.terms.specs.Meaning.{one}
 use Rattle.terms.specs.declared.class_terms.Months.{Months}
-
--- in a set of no parts there is none
-no-part : (n p : ℕ) → getD (replicate n false) p false ≡ true → ⊥
-no-part zero p e = false≢true e
-no-part (suc n) zero e = false≢true e
-no-part (suc n) (suc p) e = no-part n p e
 
 abbrev monthAt : ℕ → Months
 monthAt m = record { first = m; count = 1 }

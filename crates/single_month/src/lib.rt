@@ -8,7 +8,6 @@ ghost use mathlib.Core.Path.{_≡_};
 ghost use Prim.Native.Nat.{_+_, _<_};
 ghost use lib.Dec.{eqb};
 ghost use Rattle.terms.specs.Chain.{movesUp};
-ghost use Rattle.terms.specs.Listing.{listed};
 ghost use Rattle.single_month.specs.Single.{chain, classIn, single};
 use calendars::Calendar;
 use calendars::OpenDays;
@@ -23,11 +22,6 @@ const NEXT: u32 = 0;
 const CURRENT: u32 = 1;
 
 const CLASSES: u32 = 2;
-
-// Terms answer on open days from Monday 1 January 2001 on, before Tuesday 1 January 2097.
-const FIRST_DAY: u32 = 366;
-
-const END: u32 = 35_430;
 
 // The month of a class on a day of the given month.
 fn month_of_class(month: u32, class: u32) -> u32
@@ -73,15 +67,6 @@ pub struct SingleMonth<C> {
     pub calendar: C,
 }
 
-impl<C: Calendar> SingleMonth<C> {
-    // Whether there is an answer for a class on a day.
-    fn answers(&self, day: u32, class: u32) -> bool
-        ensures { λ r. ⌜ r ≡ listed (C·Calendar .opens (now (self .entry) .calendar)) 2 day class ⌝ }
-    {
-        day >= FIRST_DAY && day < END && self.calendar.is_open(day) && class < CLASSES
-    }
-}
-
 pub impl<C: Calendar> Terms for SingleMonth<C> as SingleMonthTerms {
     ghost meaning = { λ s. single (C·Calendar .opens (s .calendar)) };
 
@@ -102,7 +87,7 @@ pub impl<C: Calendar> Terms for SingleMonth<C> as SingleMonthTerms {
     }
 
     fn class_on(&self, day: u32, class: u32) -> Option<ClassTerms> {
-        if !self.answers(day, class) {
+        if !terms::answers_for(&self.calendar, CLASSES, day, class) {
             return None;
         }
         let month = dates::month_of(day)?;

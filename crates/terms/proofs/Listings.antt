@@ -5,6 +5,7 @@ use mathlib.Core.Logic.{⊎-elim}
 use Prim.Native.Nat.{ℕ, zero, suc, _+_, _≤_, _<_}
 use native.Mathlib.Omega.{arith}
 use lib.Dec.{eqb, leb, ltb}
+use lib.ListN.{getD, replicate}
 use Rattle.std.proofs.shelf.Tests.{and-parts, and-from, leb-true, le-leb, ltb-true, lt-ltb, cases-bool, cond-true, cond-false, false≢true}
 use Rattle.std.specs.Options.{isSome}
 use Rattle.std.specs.declared.option.Option.{Option}
@@ -15,9 +16,15 @@ use Rattle.dates.proofs.MonthLaws.{month-below, month-from}
 use Rattle.dates.specs.Dates.{when, start, monthOf}
 use Rattle.terms.specs.Meaning.{Meaning, answers, sumBelow, anyBelow, one, inMonths, has, monthsOf, tradable, isPart, hasParts, successor}
 use Rattle.terms.specs.Laws.{Laws, InRange, names}
-use Rattle.terms.specs.Listing.{listed, listing}
+use Rattle.terms.specs.Listing.{answersFor, listing}
 use Rattle.terms.specs.declared.class_terms.ClassTerms.{ClassTerms}
 use Rattle.terms.proofs.Sums.{sum-ext}
+
+-- the empty set of classes has none
+pub no-part : (n p : ℕ) → getD (replicate n false) p false ≡ true → ⊥
+no-part zero p e = false≢true e
+no-part (suc n) zero e = false≢true e
+no-part (suc n) (suc p) e = no-part n p e
 
 -- a day for which terms answer
 pub record Answered (opens : ℕ → Bool) (d : ℕ) : Type 0 where
@@ -52,14 +59,14 @@ module _ (opens : ℕ → Bool) (classes settling : ℕ) (quantity : ℕ → ℕ
     pub untraded : (d : ℕ) → Answered opens d → at d settling .tradable ≡ false
     pub later : (d c : ℕ) → Answered opens d → c < classes → (c ≡ settling → ⊥) → at d settling .months .first + at d settling .months .count ≤ at d c .months .first
 
-  is-answered : (d c : ℕ) → listed opens classes d c ≡ true → Answered opens d × (c < classes)
+  pub is-answered : (d c : ℕ) → answersFor opens classes d c ≡ true → Answered opens d × (c < classes)
   is-answered d c e =
       let a = and-parts _ _ e in
       let b = and-parts _ _ (a .0) in
       let x = and-parts _ _ (b .1) in
       (record { from = leb-true 366 d (b .0); to = ltb-true d 35430 (x .0); opened = x .1 }, ltb-true c classes (a .1))
 
-  pub is-listed : (d c : ℕ) → Answered opens d → c < classes → listed opens classes d c ≡ true
+  pub is-listed : (d c : ℕ) → Answered opens d → c < classes → answersFor opens classes d c ≡ true
   is-listed d c a h =
       and-from _ _ (and-from _ _ (le-leb 366 d (a .from)) (and-from _ _ (lt-ltb d 35430 (a .to)) (a .opened))) (lt-ltb c classes h)
 
@@ -67,7 +74,7 @@ module _ (opens : ℕ → Bool) (classes settling : ℕ) (quantity : ℕ → ℕ
   by-answer : (d c : ℕ) (P : Option ClassTerms → Type 0) → P None → (Answered opens d → c < classes → P (Some (at d c))) → P (w .on d c)
   by-answer d c P none some =
       ⊎-elim (λ e. let t = is-answered d c e in subst P (sym (cond-true _ (Some (at d c)) None e)) (some (t .0) (t .1))) (λ e. subst P (sym (cond-false _ (Some (at d c)) None e)) none)
-      (cases-bool (listed opens classes d c))
+      (cases-bool (answersFor opens classes d c))
 
   pub on-answered : (d c : ℕ) → Answered opens d → c < classes → w .on d c ≡ Some (at d c)
   on-answered d c a h = cond-true _ (Some (at d c)) None (is-listed d c a h)
@@ -103,7 +110,7 @@ module _ (opens : ℕ → Bool) (classes settling : ℕ) (quantity : ℕ → ℕ
     settles = k .settles;
     calendar = k .calendar;
     quantities = k .quantities;
-    answered = λ d c. told-some (listed opens classes d c) (at d c);
+    answered = λ d c. told-some (answersFor opens classes d c) (at d c);
     ranges = λ d c t. by-answer d c (λ o. o ≡ Some t → InRange w t) (λ e. nothing t e) (λ a h e. subst (InRange w) (let z : at d c ≡ t = cc in z) (k .ranges d c a h));
     whole = λ d c. by-answer d c (λ o. hasParts o ≡ true → (tradable o ≡ true) × (successor o ≡ None)) (λ e. one-way e) (k .whole d c);
     part = λ d c p.

@@ -55,7 +55,7 @@ fn part_with<T: Terms>(terms: &T, day: u32, class: u32, month: u32) -> Option<u3
 }
 
 // The class to which a class hands a month over at the day's close: its successor, or, where it has parts, that of the
-// part with the month. None where the month is not handed over.
+// part with the month. It is asked of a month that the class has.
 pub fn heir<T: Terms>(terms: &T, day: u32, class: u32, month: u32) -> Option<u32>
     ensures is { λ r. ⌜ r ≡ heirOf (meaning (now (terms .entry))) day class month ⌝ }
     ensures law { λ _. ⌜ MonthsFollow (meaning (now (terms .entry))) ⌝ }

@@ -1,9 +1,11 @@
 // Terms: which classes there are on a day, and the laws that every product keeps.
+mod answering;
 mod class_terms;
 mod handover;
 mod quantity;
 mod terms;
 
+pub use answering::answers_for;
 pub use class_terms::ClassTerms;
 pub use class_terms::ClassTermsDebug;
 pub use class_terms::ClassTermsPartialEq;

@@ -9,18 +9,13 @@ use calendars::WeekdaysOpens;
 use std::error::AnyError;
 
 // The first month of the year of the first closed day, or of the first built-in one where the list is empty.
-pub fn year_of(rt: &LibcRuntime, closed: &[u32]) -> Result<Option<u32>, AnyError> {
+pub fn year_of(rt: &LibcRuntime, closed: &[u32]) -> Result<u32, AnyError> {
     let day = match closed.first() {
         Some(day) => *day,
         None => holidays::builtin_days(rt.alloc())?.first().copied().unwrap_or(0),
     };
-    match dates::month_of(day) {
-        Some(month) => Ok(Some(month - month % 12)),
-        None => {
-            println!(rt, "The list is refused: its first day, {day}, is out of range.")?;
-            Ok(None)
-        }
-    }
+    let month = dates::month_of(day).unwrap_or(0);
+    Ok(month - month % 12)
 }
 
 fn tell_month<C: Calendar>(rt: &LibcRuntime, calendar: &C, month: u32) -> Result<(), AnyError> {
@@ -31,7 +26,7 @@ fn tell_month<C: Calendar>(rt: &LibcRuntime, calendar: &C, month: u32) -> Result
     };
     let here = calendars::count_after_ninth(&open_days, month).unwrap_or(0);
     let there = calendars::count_after_ninth(&weekdays, month).unwrap_or(0);
-    println!(rt, "  {name}: {here} open days after the ninth, {there} on the weekday calendar.")?;
+    println!(rt, "  {name}: {here}; on the weekday calendar {there}.")?;
     Ok(())
 }
 
@@ -41,21 +36,22 @@ fn tell_quarter<C: Calendar>(rt: &LibcRuntime, calendar: &C, last_month: u32) ->
     let weekdays = OpenDays {
         calendar: &Weekdays,
     };
-    println!(rt, "  The quarter that ends with {name}:")?;
-    for left in (0..4).rev() {
-        let here = optional_day_text(rt.alloc(), calendars::with_left(&open_days, last_month, left))?;
-        let there = optional_day_text(rt.alloc(), calendars::with_left(&weekdays, last_month, left))?;
-        println!(rt, "    {left} open days left after {here}; on the weekday calendar after {there}.")?;
-    }
+    let fourth = optional_day_text(rt.alloc(), calendars::with_left(&open_days, last_month, 3))?;
+    let third = optional_day_text(rt.alloc(), calendars::with_left(&open_days, last_month, 2))?;
+    let second = optional_day_text(rt.alloc(), calendars::with_left(&open_days, last_month, 1))?;
+    let last = optional_day_text(rt.alloc(), calendars::with_left(&open_days, last_month, 0))?;
+    let other = optional_day_text(rt.alloc(), calendars::with_left(&weekdays, last_month, 3))?;
+    println!(rt, "  The quarter that ends with {name} closes with {fourth}, {third}, {second} and {last}.")?;
+    println!(rt, "    The fourth last is {fourth}; on the weekday calendar it is {other}.")?;
     Ok(())
 }
 
 pub fn tell<C: Calendar>(rt: &LibcRuntime, calendar: &C, year: u32) -> Result<(), AnyError> {
-    println!(rt, "Its open days after the ninth of each month:")?;
+    println!(rt, "Open days after the ninth of each month:")?;
     for i in 0..12u32 {
         tell_month(rt, calendar, year.saturating_add(i))?;
     }
-    println!(rt, "The last four open days of each quarter; the first of them is the fourth last:")?;
+    println!(rt, "The last four open days of each quarter:")?;
     for i in 0..4u32 {
         tell_quarter(rt, calendar, year.saturating_add(3 * i + 2))?;
     }

@@ -1,8 +1,10 @@
 // Follows one real task from start to end and says in plain sentences what took place.
 mod calendar_story;
 mod contract_story;
+mod margin_story;
 mod wording;
 
+use crate::wording::Product;
 use calendars::ListCalendar;
 use calendars::ListCalendarOpens;
 use calendars::ListFaultDisplay;
@@ -13,6 +15,8 @@ use power::PowerTerms;
 use std::env;
 use std::error::AnyError;
 use std::fs;
+use wheat::Wheat;
+use wheat::WheatTerms;
 
 // The buyer's closed days: those of the file that the first argument names, or the built-in ones. None where the file is
 // no list of dates, which is then said.
@@ -36,20 +40,27 @@ fn closed_days(rt: &LibcRuntime) -> Result<Option<Vec<u32>>, AnyError> {
     }
 }
 
+// The story of power; the calendar comes back.
+fn tell_power(rt: &LibcRuntime, calendar: ListCalendar, year: u32) -> Result<ListCalendar, AnyError> {
+    let power = Power {
+        calendar,
+        profile: Baseload,
+    };
+    contract_story::tell(rt, Product::Power, &power, year)?;
+    margin_story::tell(rt, Product::Power, &power, year)?;
+    let Power { calendar, .. } = power;
+    Ok(calendar)
+}
+
 fn tell(rt: &LibcRuntime, closed: Vec<u32>) -> Result<(), AnyError> {
     let count = closed.len();
-    let Some(year) = calendar_story::year_of(rt, closed.as_slice())? else {
-        return Ok(());
-    };
+    let year = calendar_story::year_of(rt, closed.as_slice())?;
     match ListCalendar::new(closed) {
         Ok(calendar) => {
             println!(rt, "The list of {count} closed days is accepted.")?;
             calendar_story::tell(rt, &calendar, year)?;
-            let terms = Power {
-                calendar,
-                profile: Baseload,
-            };
-            contract_story::tell(rt, &terms, year)
+            let calendar = tell_power(rt, calendar, year)?;
+            contract_story::tell(rt, Product::Wheat, &Wheat { calendar }, year)
         }
         Err(refused) => {
             let number = refused.fault.number();

@@ -1,4 +1,4 @@
-// Days and months in words.
+// Days, months and classes in words.
 use dates::DateDisplay;
 use dates::WeekdayDisplay;
 use std::alloc::AllocError;
@@ -29,4 +29,38 @@ pub fn month_text(heap: Global, month: u32) -> Result<String, AllocError> {
     }
     let year = 2000 + year;
     format!(heap, "{name} {year}")
+}
+
+// One month, or the first and the last of several.
+pub fn months_text(heap: Global, first: u32, count: u32) -> Result<String, AllocError> {
+    let from = month_text(heap, first)?;
+    if count <= 1 {
+        return Ok(from);
+    }
+    let to = month_text(heap, first.saturating_add(count - 1))?;
+    format!(heap, "{from} to {to}")
+}
+
+// What is told of: its class names and its unit.
+#[derive(Clone, Copy)]
+pub enum Product {
+    Power,
+    Wheat,
+}
+
+impl Product {
+    pub fn class_text(self, class: u32) -> &'static str {
+        let name = match self {
+            Product::Power => power::class_name(class),
+            Product::Wheat => wheat::class_name(class),
+        };
+        name.unwrap_or("no class")
+    }
+
+    pub fn unit(self) -> &'static str {
+        match self {
+            Product::Power => "MWh",
+            Product::Wheat => "tons",
+        }
+    }
 }

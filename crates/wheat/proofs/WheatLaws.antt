@@ -17,21 +17,15 @@ use Rattle.calendars.specs.Calendars.{Lawful}
 use Rattle.calendars.specs.Walks.{First}
 use Rattle.terms.specs.Chain.{movesUp}
 use Rattle.terms.specs.Laws.{Laws, names}
-use Rattle.terms.specs.Listing.{listed}
+use Rattle.terms.specs.Listing.{answersFor}
 use Rattle.terms.specs.Meaning.{answers, anyBelow, one, monthsOf, successor}
 use Rattle.terms.specs.declared.class_terms.Months.{Months}
 use Rattle.terms.proofs.Chains.{moved, apart}
-use Rattle.terms.proofs.Listings.{Answered, Kept, laws, on-answered}
+use Rattle.terms.proofs.Listings.{no-part, Answered, Kept, laws, on-answered}
 use Rattle.wheat.specs.Wheat.{expiryMonth, tenth, lastDay, frontExpiry, wheatChain, wheatClass, wheat, FrontIsFirstNotPast}
 use Rattle.wheat.proofs.ExpiryMonths.{expiry-near}
 use Rattle.wheat.proofs.LastDays.{last-is, last-told}
 use Rattle.wheat.proofs.FrontLaws.{front-bounds, front-past, front-ahead, front-next}
-
--- no class is a part
-no-part : (n p : ℕ) → getD (replicate n false) p false ≡ true → ⊥
-no-part zero p e = false≢true e
-no-part (suc n) zero e = false≢true e
-no-part (suc n) (suc p) e = no-part n p e
 
 -- every class but DEL stands after DEL, and has a class before it
 abbrev afterDelivery : ℕ → Bool
@@ -101,7 +95,7 @@ module _ (f : ℕ → Bool) (law : Lawful f) where
       record { from = leb-true 366 d (a .0); to = ltb-true d 35430 (b .0); opened = b .1 }
 
   -- what is known of a class that is answered
-  pub class-range : (d c k : ℕ) → listed f 6 d c ≡ true → Some k ≡ when (ltb d 36525) (frontExpiry f d) → (d < 36525) × ((0 < k) × ((k < 396) × (c < 6)))
+  pub class-range : (d c k : ℕ) → answersFor f 6 d c ≡ true → Some k ≡ when (ltb d 36525) (frontExpiry f d) → (d < 36525) × ((0 < k) × ((k < 396) × (c < 6)))
   class-range d c k e q =
       let t = and-parts _ _ e in
       let b = front-bounds f (law .four) d (answered d (t .0)) in

@@ -1,7 +1,6 @@
 // Durum wheat as terms.
 ghost use mathlib.Core.Path.{_≡_};
 ghost use Prim.Native.Nat.{_<_, _≤_};
-ghost use Rattle.terms.specs.Listing.{listed};
 ghost use Rattle.wheat.specs.Wheat.{intervalClass, classWith, wheat};
 use crate::classes::CLASSES;
 use crate::classes::DEL;
@@ -64,14 +63,6 @@ pub struct Wheat<C> {
     pub calendar: C,
 }
 
-impl<C: Calendar> Wheat<C> {
-    fn answers(&self, day: u32, class: u32) -> bool
-        ensures { λ r. ⌜ r ≡ listed (C·Calendar .opens (now (self .entry) .calendar)) 6 day class ⌝ }
-    {
-        day >= 366 && day < 35_430 && self.calendar.is_open(day) && class < CLASSES
-    }
-}
-
 pub impl<C: Calendar> Terms for Wheat<C> as WheatTerms {
     ghost meaning = { λ w. wheat (C·Calendar .opens (w .calendar)) };
 
@@ -92,7 +83,7 @@ pub impl<C: Calendar> Terms for Wheat<C> as WheatTerms {
     }
 
     fn class_on(&self, day: u32, class: u32) -> Option<ClassTerms> {
-        if !self.answers(day, class) {
+        if !terms::answers_for(&self.calendar, CLASSES, day, class) {
             return None;
         }
         let front = front_expiry(&self.calendar, day)?;

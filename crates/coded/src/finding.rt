@@ -1,4 +1,4 @@
-// The search, by halves.
+// Finding an entry by its code, halving the list at each step.
 ghost use mathlib.Core.Path.{_≡_};
 ghost use mathlib.Core.List.{map};
 ghost use lib.ListN.{length, getD};

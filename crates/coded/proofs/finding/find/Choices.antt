@@ -3,7 +3,7 @@ use mathlib.Core.List.{map}
 use lib.ListN.{length}
 use Rattle.coded.specs.Places.{Rising}
 use Rattle.coded.proofs.Found.{Narrowed}
-use Rattle.coded.proofs.search.find.Given as given
+use Rattle.coded.proofs.finding.find.Given as given
 
 abbrev pub Inv-loop-low : given.InvT-loop-low
 Inv-loop-low g l =

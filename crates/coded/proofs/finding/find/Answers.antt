@@ -4,7 +4,7 @@ use native.Mathlib.Omega.{arith}
 use lib.ListN.{getD}
 use Rattle.std.proofs.shelf.Lists.{length-map}
 use Rattle.coded.proofs.Found.{Narrowed, unread, raised, lowered, here, nowhere, was-here, was-before, was-after}
-use Rattle.coded.proofs.search.find.Needs as need
+use Rattle.coded.proofs.finding.find.Needs as need
 
 pub loop-low-holds : need.loop-low-holds
 loop-low-holds g c =

@@ -1,6 +1,6 @@
 use mathlib.Core.Path.{sym, ap, _∙_}
 use Rattle.std.proofs.shelf.Lists.{getD-map}
-use Rattle.coded.proofs.search.code_at.Needs as need
+use Rattle.coded.proofs.finding.code_at.Needs as need
 
 pub returns : need.returns
 returns g c =
