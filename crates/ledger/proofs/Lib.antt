@@ -1,0 +1,13 @@
+pub mod Tests
+pub mod Sums
+pub mod Weights
+pub mod Worth
+pub mod Days
+pub mod Classes
+pub mod Figures
+pub mod Kept
+pub mod Trading
+pub mod Settling
+pub mod Closing
+pub mod Following
+pub mod Standing
