@@ -28,7 +28,8 @@ impl ListFault {
     {
         match self {
             ListFault::TooMany => "the list has more than 2,000 days",
-            ListFault::Unordered => "the days do not rise strictly, or one lies outside 2000 to 2099",
+            ListFault::Unordered =>
+                "the days do not rise strictly, or one lies outside 2000 to 2099",
             ListFault::LawBroken => "some month keeps fewer than four open days after its ninth",
         }
     }

@@ -72,13 +72,26 @@ impl ListCalendar {
         ensures { λ r. ⌜ Cases r (λ c. (c .closed ≡ closed) × Accepted (vec-items closed)) (λ e. (e .closed ≡ closed) × Refused (vec-items closed) (e .fault)) ⌝ }
     {
         if closed.len() > 2000 {
-            return Err(RefusedList { fault: ListFault::TooMany, closed });
+            return Err(RefusedList {
+                fault: ListFault::TooMany,
+                closed,
+            });
         }
         if !ordered(closed.as_slice()) {
-            return Err(RefusedList { fault: ListFault::Unordered, closed });
+            return Err(RefusedList {
+                fault: ListFault::Unordered,
+                closed,
+            });
         }
-        if !keeps_law(&Unlisted { closed: closed.as_slice() }) {
-            return Err(RefusedList { fault: ListFault::LawBroken, closed });
+        if !keeps_law(
+            &Unlisted {
+                closed: closed.as_slice(),
+            },
+        ) {
+            return Err(RefusedList {
+                fault: ListFault::LawBroken,
+                closed,
+            });
         }
         Ok(ListCalendar { closed })
     }
@@ -95,6 +108,8 @@ pub impl Calendar for ListCalendar as ListCalendarOpens {
     ghost opens = { λ c. listed (vec-items (c .closed)) };
 
     fn is_open(&self, day: u32) -> bool {
-        Unlisted { closed: self.closed.as_slice() }.contains(day)
+        Unlisted {
+            closed: self.closed.as_slice(),
+        }.contains(day)
     }
 }

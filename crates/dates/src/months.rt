@@ -9,14 +9,59 @@ const LENGTHS: [u32; 12] = [31, 28, 31, 30, 31, 30, 31, 31, 30, 31, 30, 31];
 
 // The months and the days of four years, of which the first is a leap year.
 const CYCLE_MONTHS: u32 = 48;
+
 const CYCLE_DAYS: u32 = 1461;
 
 // The days of a cycle before each of its months, and before the next cycle.
 const CYCLE_STARTS: [u32; 49] = [
-    0, 31, 60, 91, 121, 152, 182, 213, 244, 274, 305, 335,
-    366, 397, 425, 456, 486, 517, 547, 578, 609, 639, 670, 700,
-    731, 762, 790, 821, 851, 882, 912, 943, 974, 1004, 1035, 1065,
-    1096, 1127, 1155, 1186, 1216, 1247, 1277, 1308, 1339, 1369, 1400, 1430,
+    0,
+    31,
+    60,
+    91,
+    121,
+    152,
+    182,
+    213,
+    244,
+    274,
+    305,
+    335,
+    366,
+    397,
+    425,
+    456,
+    486,
+    517,
+    547,
+    578,
+    609,
+    639,
+    670,
+    700,
+    731,
+    762,
+    790,
+    821,
+    851,
+    882,
+    912,
+    943,
+    974,
+    1004,
+    1035,
+    1065,
+    1096,
+    1127,
+    1155,
+    1186,
+    1216,
+    1247,
+    1277,
+    1308,
+    1339,
+    1369,
+    1400,
+    1430,
     1461,
 ];
 
@@ -33,7 +78,11 @@ fn cycle_month(day: u32) -> u32
     ensures { λ r. ⌜ InMonth day r ⌝ ∗ ⌜ r < 48 ⌝ }
 {
     let least = day / 31;
-    if cycle_start(least + 1) <= day { least + 1 } else { least }
+    if cycle_start(least + 1) <= day {
+        least + 1
+    } else {
+        least
+    }
 }
 
 // The month of a day of the range.
@@ -87,5 +136,9 @@ pub fn month_length(month: u32) -> Option<u32>
         return None;
     }
     let days = LENGTHS[(month % 12) as usize];
-    Some(if month % CYCLE_MONTHS == 1 { days + 1 } else { days })
+    Some(if month % CYCLE_MONTHS == 1 {
+        days + 1
+    } else {
+        days
+    })
 }

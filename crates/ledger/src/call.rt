@@ -11,11 +11,22 @@ pub enum Call {
         price: i32,
     },
     // The day's price of a class.
-    Mark { class: u32, price: i32 },
+    Mark {
+        class: u32,
+        price: i32,
+    },
     // A new price of a delivery class, for margins only.
-    Reprice { class: u32, price: i32 },
+    Reprice {
+        class: u32,
+        price: i32,
+    },
     // The final price of the settling class; the payment list has this many lines.
-    Settle { price: i32, room: usize },
+    Settle {
+        price: i32,
+        room: usize,
+    },
     // The end of the day; the payment list has this many lines.
-    Close { room: usize },
+    Close {
+        room: usize,
+    },
 }

@@ -10,19 +10,18 @@ use crate::kind::place;
 use terms::ClassTerms;
 use terms::Months;
 
-const NO_PARTS: [bool; 12] = [
-    false, false, false, false, false, false, false, false, false, false, false, false,
-];
+// Whether a class is a part, class by class from M01 on.
+const Y: bool = true;
+
+const N: bool = false;
+
+const NO_PARTS: [bool; 12] = [N, N, N, N, N, N, N, N, N, N, N, N];
 
 // M01, M02, M03.
-const QUARTER_PARTS: [bool; 12] = [
-    true, true, true, false, false, false, false, false, false, false, false, false,
-];
+const QUARTER_PARTS: [bool; 12] = [Y, Y, Y, N, N, N, N, N, N, N, N, N];
 
 // M01, M02, M03, Q02, Q03, Q04.
-const YEAR_PARTS: [bool; 12] = [
-    true, true, true, false, true, true, true, false, false, false, false, false,
-];
+const YEAR_PARTS: [bool; 12] = [Y, Y, Y, N, Y, Y, Y, N, N, N, N, N];
 
 // The number of the day's own period of so many months, one further on the last three open days of a quarter or a year.
 fn own(months: u32, month: u32, left: u32) -> u32
@@ -77,6 +76,10 @@ pub(crate) fn class_at(month: u32, left: u32, second_year: bool, class: u32) -> 
         tradable: if class == 8 { second_year } else { class < 9 },
         interval_class: if class == 0 && left <= 1 { 9 } else { class },
         parts: parts(class, turning),
-        successor: if turning { earlier_class(class) } else { Some(class) },
+        successor: if turning {
+            earlier_class(class)
+        } else {
+            Some(class)
+        },
     }
 }

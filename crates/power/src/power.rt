@@ -2,9 +2,9 @@
 ghost use mathlib.Core.Path.{_≡_};
 ghost use Rattle.power.specs.Power.{power};
 use crate::class::class_at;
+use crate::hours::Profile;
 use crate::kind::CLASSES;
 use crate::kind::D02;
-use crate::hours::Profile;
 use calendars::Calendar;
 use calendars::OpenDays;
 use calendars::OpenDaysSet;

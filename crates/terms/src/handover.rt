@@ -8,7 +8,8 @@ fn has_month<T: Terms>(terms: &T, day: u32, class: u32, month: u32) -> bool
     ensures { λ r. ⌜ r ≡ has (meaning (now (terms .entry)) .on day class) month ⌝ }
 {
     match terms.class_on(day, class) {
-        Some(class) => month >= class.months.first && month - class.months.first < class.months.count,
+        Some(class) => month >= class.months.first
+            && month - class.months.first < class.months.count,
         None => false,
     }
 }

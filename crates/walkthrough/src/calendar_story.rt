@@ -12,7 +12,10 @@ use std::error::AnyError;
 pub fn year_of(rt: &LibcRuntime, closed: &[u32]) -> Result<u32, AnyError> {
     let day = match closed.first() {
         Some(day) => *day,
-        None => holidays::builtin_days(rt.alloc())?.first().copied().unwrap_or(0),
+        None => holidays::builtin_days(rt.alloc())?
+            .first()
+            .copied()
+            .unwrap_or(0),
     };
     let month = dates::month_of(day).unwrap_or(0);
     Ok(month - month % 12)
@@ -30,7 +33,11 @@ fn tell_month<C: Calendar>(rt: &LibcRuntime, calendar: &C, month: u32) -> Result
     Ok(())
 }
 
-fn tell_quarter<C: Calendar>(rt: &LibcRuntime, calendar: &C, last_month: u32) -> Result<(), AnyError> {
+fn tell_quarter<C: Calendar>(
+    rt: &LibcRuntime,
+    calendar: &C,
+    last_month: u32,
+) -> Result<(), AnyError> {
     let name = month_text(rt.alloc(), last_month)?;
     let open_days = OpenDays { calendar };
     let weekdays = OpenDays {
@@ -41,8 +48,14 @@ fn tell_quarter<C: Calendar>(rt: &LibcRuntime, calendar: &C, last_month: u32) ->
     let second = optional_day_text(rt.alloc(), calendars::with_left(&open_days, last_month, 1))?;
     let last = optional_day_text(rt.alloc(), calendars::with_left(&open_days, last_month, 0))?;
     let other = optional_day_text(rt.alloc(), calendars::with_left(&weekdays, last_month, 3))?;
-    println!(rt, "  The quarter that ends with {name} closes with {fourth}, {third}, {second} and {last}.")?;
-    println!(rt, "    The fourth last is {fourth}; on the weekday calendar it is {other}.")?;
+    println!(
+        rt,
+        "  The quarter that ends with {name} closes with {fourth}, {third}, {second} and {last}."
+    )?;
+    println!(
+        rt,
+        "    The fourth last is {fourth}; on the weekday calendar it is {other}."
+    )?;
     Ok(())
 }
 

@@ -42,7 +42,11 @@ fn handed_over<T: Terms>(terms: &T, day: u32, first: u32, holders: &[u32; 12]) -
 fn run_length(before: &[u32; 12], after: &[u32; 12], i: u32, count: u32) -> u32 {
     let mut length: u32 = 0;
     for j in i..count {
-        if i < 12 && j < 12 && before[j as usize] == before[i as usize] && after[j as usize] == after[i as usize] {
+        if i < 12
+            && j < 12
+            && before[j as usize] == before[i as usize]
+            && after[j as usize] == after[i as usize]
+        {
             length = length.saturating_add(1);
         } else {
             break;
@@ -59,7 +63,14 @@ fn quantity<T: Terms>(terms: &T, first: u32, count: u32) -> u32 {
     sum
 }
 
-fn tell_changes<T: Terms>(rt: &LibcRuntime, product: Product, terms: &T, months: Months, before: &[u32; 12], after: &[u32; 12]) -> Result<(), AnyError> {
+fn tell_changes<T: Terms>(
+    rt: &LibcRuntime,
+    product: Product,
+    terms: &T,
+    months: Months,
+    before: &[u32; 12],
+    after: &[u32; 12],
+) -> Result<(), AnyError> {
     let mut skip = 0;
     for i in 0..months.count.min(12) {
         if skip > 0 {
@@ -98,7 +109,14 @@ fn any_change(before: &[u32; 12], after: &[u32; 12], count: u32) -> bool {
     false
 }
 
-fn follow<T: Terms>(rt: &LibcRuntime, product: Product, terms: &T, start: u32, class: u32, months: Months) -> Result<(), AnyError> {
+fn follow<T: Terms>(
+    rt: &LibcRuntime,
+    product: Product,
+    terms: &T,
+    start: u32,
+    class: u32,
+    months: Months,
+) -> Result<(), AnyError> {
     let mut holders = [class; 12];
     let mut day = start;
     for _ in 0..2000 {
@@ -123,13 +141,21 @@ fn follow<T: Terms>(rt: &LibcRuntime, product: Product, terms: &T, start: u32, c
 
 // The class that is bought in the story's first month, on its first open day.
 pub fn bought<T: Terms>(terms: &T, year: u32) -> Option<(u32, u32, Months)> {
-    let start = calendars::first_in_month(&TermsOpenDays { terms }, year.saturating_add(bench::START_IN_YEAR))?;
+    let start = calendars::first_in_month(
+        &TermsOpenDays { terms },
+        year.saturating_add(bench::START_IN_YEAR),
+    )?;
     let (class, months) = longest_class(terms, start)?;
     Some((start, class, months))
 }
 
 // The longest contract, bought on the first open day of the story's month.
-pub fn tell<T: Terms>(rt: &LibcRuntime, product: Product, terms: &T, year: u32) -> Result<(), AnyError> {
+pub fn tell<T: Terms>(
+    rt: &LibcRuntime,
+    product: Product,
+    terms: &T,
+    year: u32,
+) -> Result<(), AnyError> {
     let Some((start, class, months)) = bought(terms, year) else {
         println!(rt, "No class is tradable then, so no contract is followed.")?;
         return Ok(());
@@ -139,6 +165,9 @@ pub fn tell<T: Terms>(rt: &LibcRuntime, product: Product, terms: &T, year: u32) 
     let unit = product.unit();
     let span = months_text(rt.alloc(), months.first, months.count)?;
     let amount = terms::quantity_of(terms, start, class);
-    println!(rt, "On {date} a lot of {name} is bought: {span}, {amount} {unit} in all.")?;
+    println!(
+        rt,
+        "On {date} a lot of {name} is bought: {span}, {amount} {unit} in all."
+    )?;
     follow(rt, product, terms, start, class, months)
 }

@@ -25,7 +25,10 @@ fn closed_days(rt: &LibcRuntime) -> Result<Option<Vec<u32>>, AnyError> {
     let mut args = env::args(rt)?;
     let _ = args.next();
     let Some(path) = args.next() else {
-        println!(rt, "The buyer brings no file, so the built-in list of closed days is taken.")?;
+        println!(
+            rt,
+            "The buyer brings no file, so the built-in list of closed days is taken."
+        )?;
         return Ok(Some(holidays::builtin_days(heap)?));
     };
     let bytes = fs::read(rt, path.as_str())?;
@@ -33,7 +36,10 @@ fn closed_days(rt: &LibcRuntime) -> Result<Option<Vec<u32>>, AnyError> {
     match holidays::read_days(heap, bytes.as_slice()) {
         Ok(days) => Ok(Some(days)),
         Err(holidays::ReadFault::NotADate { line }) => {
-            println!(rt, "It is refused: line {line} is no date of the form YYYY-MM-DD from 2000 to 2099.")?;
+            println!(
+                rt,
+                "It is refused: line {line} is no date of the form YYYY-MM-DD from 2000 to 2099."
+            )?;
             Ok(None)
         }
         Err(holidays::ReadFault::NoMemory) => Err("no memory for the closed days".into()),
@@ -41,7 +47,11 @@ fn closed_days(rt: &LibcRuntime) -> Result<Option<Vec<u32>>, AnyError> {
 }
 
 // The story of power; the calendar comes back.
-fn tell_power(rt: &LibcRuntime, calendar: ListCalendar, year: u32) -> Result<ListCalendar, AnyError> {
+fn tell_power(
+    rt: &LibcRuntime,
+    calendar: ListCalendar,
+    year: u32,
+) -> Result<ListCalendar, AnyError> {
     let power = Power {
         calendar,
         profile: Baseload,
@@ -65,14 +75,20 @@ fn tell(rt: &LibcRuntime, closed: Vec<u32>) -> Result<(), AnyError> {
         Err(refused) => {
             let number = refused.fault.number();
             let reason = refused.fault;
-            println!(rt, "The list of {count} closed days is refused by question {number}: {reason}.")?;
+            println!(
+                rt,
+                "The list of {count} closed days is refused by question {number}: {reason}."
+            )?;
             Ok(())
         }
     }
 }
 
 fn run(rt: &LibcRuntime) -> Result<(), AnyError> {
-    println!(rt, "Tekkuvazh, a margin book for power and durum-wheat futures.")?;
+    println!(
+        rt,
+        "Tekkuvazh, a margin book for power and durum-wheat futures."
+    )?;
     match closed_days(rt)? {
         Some(closed) => tell(rt, closed),
         None => Ok(()),

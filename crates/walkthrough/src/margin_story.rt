@@ -6,7 +6,12 @@ use amounts::StepDebug;
 use std::error::AnyError;
 use terms::Terms;
 
-pub fn tell<T: Terms>(rt: &LibcRuntime, product: Product, terms: &T, year: u32) -> Result<(), AnyError> {
+pub fn tell<T: Terms>(
+    rt: &LibcRuntime,
+    product: Product,
+    terms: &T,
+    year: u32,
+) -> Result<(), AnyError> {
     let Some((start, class, _)) = bought(terms, year) else {
         return Ok(());
     };
@@ -14,7 +19,10 @@ pub fn tell<T: Terms>(rt: &LibcRuntime, product: Product, terms: &T, year: u32) 
     let quantity = terms::quantity_of(terms, start, class);
     let price = bench::PRICE;
     let interval = bench::INTERVAL;
-    println!(rt, "The initial margin of that lot of {name} at {price} cents, with an interval of {interval} hundredths of a percent:")?;
+    println!(
+        rt,
+        "The initial margin of that lot of {name} at {price} cents, with an interval of {interval} hundredths of a percent:"
+    )?;
     for step in Step::all() {
         let result = amounts::step_result(price, interval, quantity, 1, step);
         println!(rt, "  step {step:?}: {result} cents")?;
