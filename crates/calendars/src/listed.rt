@@ -95,13 +95,6 @@ impl ListCalendar {
         }
         Ok(ListCalendar { closed })
     }
-
-    // The days of the list.
-    pub fn closed_days(&self) -> &[u32]
-        ensures { λ r. ⌜ now r ≡ vec-items (now (self .entry) .closed) ⌝ }
-    {
-        self.closed.as_slice()
-    }
 }
 
 pub impl Calendar for ListCalendar as ListCalendarOpens {

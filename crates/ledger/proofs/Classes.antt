@@ -78,14 +78,14 @@ module _ (w : Meaning) (law : Laws w) (d : ℕ) where
   months-split c m x =
       ⊎-elim
       (λ (q : hasParts (w .on d c) ≡ true).
-        sum-same (w .classes) _ (λ p. pos (one (isPart (w .on d c) p && has (w .on d p) m)) *ℤ x) (λ p l. both-so (isPart (w .on d c) p) (has (w .on d p) m) x)
-        ∙ sum-right (w .classes) (λ p. pos (one (isPart (w .on d c) p && has (w .on d p) m))) x
-        ∙ ap (λ v. v *ℤ x) (sum-pos (w .classes) (λ p. one (isPart (w .on d c) p && has (w .on d p) m)) ∙ ap pos (law .cover d c m q))
-        ∙ one-so (has (w .on d c) m) x
-        ∙ sym (cond-true (hasParts (w .on d c)) _ (pos 0) q))
+      sum-same (w .classes) _ (λ p. pos (one (isPart (w .on d c) p && has (w .on d p) m)) *ℤ x) (λ p l. both-so (isPart (w .on d c) p) (has (w .on d p) m) x)
+      ∙ sum-right (w .classes) (λ p. pos (one (isPart (w .on d c) p && has (w .on d p) m))) x
+      ∙ ap (λ v. v *ℤ x) (sum-pos (w .classes) (λ p. one (isPart (w .on d c) p && has (w .on d p) m)) ∙ ap pos (law .cover d c m q))
+      ∙ one-so (has (w .on d c) m) x
+      ∙ sym (cond-true (hasParts (w .on d c)) _ (pos 0) q))
       (λ (q : hasParts (w .on d c) ≡ false).
-        sum-nil (w .classes) _ (λ p l. cond-false (isPart (w .on d c) p) _ (pos 0) (no-part c p q l))
-        ∙ sym (cond-false (hasParts (w .on d c)) _ (pos 0) q))
+      sum-nil (w .classes) _ (λ p l. cond-false (isPart (w .on d c) p) _ (pos 0) (no-part c p q l))
+      ∙ sym (cond-false (hasParts (w .on d c)) _ (pos 0) q))
       (cases-bool (hasParts (w .on d c)))
 
   -- and so its quantity is the sum over its parts
@@ -93,11 +93,11 @@ module _ (w : Meaning) (law : Laws w) (d : ℕ) where
   quantity-split c =
       ⊎-elim
       (λ (q : hasParts (w .on d c) ≡ true).
-        sum-same (w .classes) _ (λ p. pos (cond (isPart (w .on d c) p) (classQuantity w (w .on d p)) 0)) (λ p l. if-pos (isPart (w .on d c) p) (classQuantity w (w .on d p)))
-        ∙ sum-pos (w .classes) (λ p. cond (isPart (w .on d c) p) (classQuantity w (w .on d p)) 0)
-        ∙ ap pos (parts-and-successors w law .parts d c q)
-        ∙ sym (cond-true (hasParts (w .on d c)) _ (pos 0) q))
+      sum-same (w .classes) _ (λ p. pos (cond (isPart (w .on d c) p) (classQuantity w (w .on d p)) 0)) (λ p l. if-pos (isPart (w .on d c) p) (classQuantity w (w .on d p)))
+      ∙ sum-pos (w .classes) (λ p. cond (isPart (w .on d c) p) (classQuantity w (w .on d p)) 0)
+      ∙ ap pos (parts-and-successors w law .parts d c q)
+      ∙ sym (cond-true (hasParts (w .on d c)) _ (pos 0) q))
       (λ (q : hasParts (w .on d c) ≡ false).
-        sum-nil (w .classes) _ (λ p l. cond-false (isPart (w .on d c) p) _ (pos 0) (no-part c p q l))
-        ∙ sym (cond-false (hasParts (w .on d c)) _ (pos 0) q))
+      sum-nil (w .classes) _ (λ p l. cond-false (isPart (w .on d c) p) _ (pos 0) (no-part c p q l))
+      ∙ sym (cond-false (hasParts (w .on d c)) _ (pos 0) q))
       (cases-bool (hasParts (w .on d c)))

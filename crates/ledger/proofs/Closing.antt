@@ -105,11 +105,11 @@ module _ (w : Meaning) (law : Laws w) (F : Figures) (s : State) (k : Kept w F s)
       ⊎-elim
       (λ (t : tradable (classNow w s c) ≡ true). absurd (may .priced c l t (sym (cond-true _ (s .today c) (s .last c) t) ∙ q)))
       (λ (t : tradable (classNow w s c) ≡ false).
-        let gone : s .last c ≡ None = sym (cond-false _ (s .today c) (s .last c) t) ∙ q in
-        let none : s .lots a c ≡ pos 0 = k .unpriced a c gone ∙ k .idle a c t .0 in
-        let given : sumZ N (λ b. ifZ (isPart (classNow w s b) c) (s .lots a b)) ≡ pos 0 = sum-nil N (λ b. ifZ (isPart (classNow w s b) c) (s .lots a b)) (λ b l1. cond-false _ (s .lots a b) (pos 0) (untraded-part b c t)) in
-        cond-false (hasParts (classNow w s c)) (pos 0) (s .lots a c +ℤ sumZ N (λ b. ifZ (isPart (classNow w s b) c) (s .lots a b))) (untraded-whole c t)
-        ∙ (λ i. none i +ℤ given i))
+      let gone : s .last c ≡ None = sym (cond-false _ (s .today c) (s .last c) t) ∙ q in
+      let none : s .lots a c ≡ pos 0 = k .unpriced a c gone ∙ k .idle a c t .0 in
+      let given : sumZ N (λ b. ifZ (isPart (classNow w s b) c) (s .lots a b)) ≡ pos 0 = sum-nil N (λ b. ifZ (isPart (classNow w s b) c) (s .lots a b)) (λ b l1. cond-false _ (s .lots a b) (pos 0) (untraded-part b c t)) in
+      cond-false (hasParts (classNow w s c)) (pos 0) (s .lots a c +ℤ sumZ N (λ b. ifZ (isPart (classNow w s b) c) (s .lots a b))) (untraded-whole c t)
+      ∙ (λ i. none i +ℤ given i))
       (cases-bool (tradable (classNow w s c)))
 
   -- a class that ends has no lots left
@@ -128,10 +128,10 @@ module _ (w : Meaning) (law : Laws w) (F : Figures) (s : State) (k : Kept w F s)
       ⊎-elim
       (λ (y : hasParts (classNow w s c) ≡ true). cond-true (hasParts (classNow w s c)) (pos 0) _ y)
       (λ (y : hasParts (classNow w s c) ≡ false).
-        ⊎-elim
-        (λ (z : c ≡ S). unpriced-empty a c l (subst (λ c. newest w s c ≡ None) (sym z) (newest-settling ∙ may .free (taken (subst (λ c. next c ≡ None) z q)))))
-        (λ (z : c ≡ S → ⊥). absurd (law .lasting d c (k .answered) l z y q))
-        (cases-eq c S))
+      ⊎-elim
+      (λ (z : c ≡ S). unpriced-empty a c l (subst (λ c. newest w s c ≡ None) (sym z) (newest-settling ∙ may .free (taken (subst (λ c. next c ≡ None) z q)))))
+      (λ (z : c ≡ S → ⊥). absurd (law .lasting d c (k .answered) l z y q))
+      (cases-eq c S))
       (cases-bool (hasParts (classNow w s c)))
 
   -- ---- lots
@@ -144,8 +144,9 @@ module _ (w : Meaning) (law : Laws w) (F : Figures) (s : State) (k : Kept w F s)
       one c false =
           sum-add (s .accounts) (λ a. s .lots a c) (λ a. sumZ N (λ b. ifZ (isPart (classNow w s b) c) (s .lots a b)))
           ∙ (λ i. k .lots-nil c i +ℤ (sum-swap (s .accounts) N (λ a b. ifZ (isPart (classNow w s b) c) (s .lots a b))
-            ∙ sum-nil N (λ b. sumZ (s .accounts) (λ a. ifZ (isPart (classNow w s b) c) (s .lots a b))) (λ b l.
-              sym (if-sum (isPart (classNow w s b) c) (s .accounts) (λ a. s .lots a b)) ∙ ap (ifZ (isPart (classNow w s b) c)) (k .lots-nil b) ∙ if-zero (isPart (classNow w s b) c))) i)
+          ∙ sum-nil N (λ b. sumZ (s .accounts) (λ a. ifZ (isPart (classNow w s b) c) (s .lots a b))) (λ b l.
+          sym (if-sum (isPart (classNow w s b) c) (s .accounts) (λ a. s .lots a b)) ∙ ap (ifZ (isPart (classNow w s b) c)) (k .lots-nil b) ∙ if-zero (isPart (classNow w s b) c))) i)
+
       by : (o : Option ℕ) → sumZ (s .accounts) (λ a. from o (pos 0) (afterParts w s a)) ≡ pos 0
       by None = sum-zero (s .accounts)
       by (Some c) = one c (hasParts (classNow w s c))
@@ -164,20 +165,20 @@ module _ (w : Meaning) (law : Laws w) (F : Figures) (s : State) (k : Kept w F s)
       let G : ℕ → ℤ → ℤ = λ c x. ifZ (has (classNow w s c) m) x in
       let G′ : ℕ → ℤ → ℤ = λ t x. ifZ (has (w .on e t) m) x in
       moved-weigh N next apart G G′ (where-so (λ c. has (classNow w s c) m)) (where-so (λ t. has (w .on e t) m)) (afterParts w s a)
-        (successor-known w law d) (λ c t x l q. ap (λ b. ifZ b x) (months-on c t m q)) (ends a)
+      (successor-known w law d) (λ c t x l q. ap (λ b. ifZ b x) (months-on c t m q)) (ends a)
       ∙ handed-weigh N (λ c p. isPart (classNow w s c) p) (λ c. hasParts (classNow w s c)) G (where-so (λ c. has (classNow w s c) m)) (s .lots a) (flat w law d)
       ∙ plus-none (heldNow w s a m) _
-        (sum-nil N (λ c. sumZ N (λ p. ifZ (isPart (classNow w s c) p) (G p (s .lots a c))) -ℤ ifZ (hasParts (classNow w s c)) (G c (s .lots a c)))
-          (λ c l. no-gain (sumZ N (λ p. ifZ (isPart (classNow w s c) p) (G p (s .lots a c)))) _ (months-split w law d c m (s .lots a c))))
+      (sum-nil N (λ c. sumZ N (λ p. ifZ (isPart (classNow w s c) p) (G p (s .lots a c))) -ℤ ifZ (hasParts (classNow w s c)) (G c (s .lots a c)))
+      (λ c l. no-gain (sumZ N (λ p. ifZ (isPart (classNow w s c) p) (G p (s .lots a c)))) _ (months-split w law d c m (s .lots a c))))
 
   -- a settled month stays one of the settling class, or comes to lie before it when another class takes over
   closed-past : (m : ℕ) → Past w s m → Past w (closed w s) m
   closed-past m p =
       ⊎-elim
       (λ (t : takenOver w d ≡ true). some-one N (λ c. not (eqb c S) && names (next c) S) (Past w (closed w s) m) t (λ c l y.
-        let z = and-parts (not (eqb c S)) (names (next c) S) y in
-        let ne : c ≡ S → ⊥ = λ (q : c ≡ S). false≢true (sym (not-from-true (eqb c S) (eq-eqb c S q)) ∙ z .0) in
-        inr (λ j v. past-before w law s (k .answered) m c j p ne (sym (months-on c S j (names-true _ S (z .1))) ∙ v))))
+      let z = and-parts (not (eqb c S)) (names (next c) S) y in
+      let ne : c ≡ S → ⊥ = λ (q : c ≡ S). false≢true (sym (not-from-true (eqb c S) (eq-eqb c S q)) ∙ z .0) in
+      inr (λ j v. past-before w law s (k .answered) m c j p ne (sym (months-on c S j (names-true _ S (z .1))) ∙ v))))
       (λ (t : takenOver w d ≡ false). stays (law .stays d (k .answered) ∙ cond-false (takenOver w d) None (Some S) t) p)
       (cases-bool (takenOver w d))
     where
@@ -196,20 +197,20 @@ module _ (w : Meaning) (law : Laws w) (F : Figures) (s : State) (k : Kept w F s)
       let G′ : ℕ → ℤ → ℤ = λ t x. x *ℤ P′ t in
       (λ i. sumZ N (λ t. less-zero (from (sourceOf w s t) (pos 0) (afterParts w s a)) i *ℤ P′ t))
       ∙ moved-weigh N next apart G G′ (priced-at P) (priced-at P′) (afterParts w s a) (successor-known w law d)
-          (λ c t x l q i. x *ℤ (pos (parts-and-successors w law .successors d c t e q (may .on .next) (may .on .soon) i) *ℤ orZero (from (source-at c t l q i) None (newest w s)))) (ends a)
+      (λ c t x l q i. x *ℤ (pos (parts-and-successors w law .successors d c t e q (may .on .next) (may .on .soon) i) *ℤ orZero (from (source-at c t l q i) None (newest w s)))) (ends a)
       ∙ handed-weigh N (λ c p. isPart (classNow w s c) p) (λ c. hasParts (classNow w s c)) G (priced-at P) (s .lots a) (flat w law d)
       ∙ ap (λ v. sumZ N (λ c. G c (s .lots a c)) +ℤ v)
-          (sum-same N (λ c. sumZ N (λ p. ifZ (isPart (classNow w s c) p) (G p (s .lots a c))) -ℤ ifZ (hasParts (classNow w s c)) (G c (s .lots a c))) (λ c. sumZ N (partPay w s a c))
-            (λ c l. parts-paid N (isPart (classNow w s c)) (hasParts (classNow w s c)) (quantityNow w s) (λ p. orZero (newest w s p)) (quantityNow w s c) (orZero (newest w s c)) (s .lots a c) (quantity-split w law d c)))
+      (sum-same N (λ c. sumZ N (λ p. ifZ (isPart (classNow w s c) p) (G p (s .lots a c))) -ℤ ifZ (hasParts (classNow w s c)) (G c (s .lots a c))) (λ c. sumZ N (partPay w s a c))
+      (λ c l. parts-paid N (isPart (classNow w s c)) (hasParts (classNow w s c)) (quantityNow w s) (λ p. orZero (newest w s p)) (quantityNow w s c) (orZero (newest w s c)) (s .lots a c) (quantity-split w law d c)))
 
   day-gain : (a : ℕ) → sumZ N (λ c. s .lots a c *ℤ (pos (quantityNow w s c) *ℤ orZero (newest w s c))) ≡ worth w s a +ℤ sumZ N (variationPay w s a) +ℤ pending w s a
   day-gain a =
       let H : ℕ → ℤ = λ c. (s .lots a c -ℤ s .traded a c) *ℤ (pos (quantityNow w s c) *ℤ orZero (s .last c)) in
       let K : ℕ → ℤ = λ c. pos (quantityNow w s c) *ℤ s .cost a c in
       sum-same N (λ c. s .lots a c *ℤ (pos (quantityNow w s c) *ℤ orZero (newest w s c))) (λ c. H c +ℤ variationPay w s a c +ℤ K c)
-        (λ c l.
-          ap (λ v. s .lots a c *ℤ (pos (quantityNow w s c) *ℤ v)) (zero-cond (tradable (classNow w s c)) (s .today c) (s .last c))
-          ∙ class-gain (tradable (classNow w s c)) (quantityNow w s c) (orZero (s .today c)) (orZero (s .last c)) (s .lots a c) (s .traded a c) (s .cost a c) (k .idle a c))
+      (λ c l.
+      ap (λ v. s .lots a c *ℤ (pos (quantityNow w s c) *ℤ v)) (zero-cond (tradable (classNow w s c)) (s .today c) (s .last c))
+      ∙ class-gain (tradable (classNow w s c)) (quantityNow w s c) (orZero (s .today c)) (orZero (s .last c)) (s .lots a c) (s .traded a c) (s .cost a c) (k .idle a c))
       ∙ sum-add N (λ c. H c +ℤ variationPay w s a c) K
       ∙ ap (λ v. v +ℤ pending w s a) (sum-add N H (variationPay w s a))
 
@@ -231,7 +232,7 @@ module _ (w : Meaning) (law : Laws w) (F : Figures) (s : State) (k : Kept w F s)
     past = λ m f q. closed-past m (k .past m f q);
     open-held = λ a m q. closed-held a m ∙ k .open-held a m q;
     value = λ a.
-      joined (s .cash a) (F .booked a) (worth w s a) (finals w F a) (sumZ N (variationPay w s a)) (partsPay w s a) (pending w s a) (F .costs a) _ _ _
+        joined (s .cash a) (F .booked a) (worth w s a) (finals w F a) (sumZ N (variationPay w s a)) (partsPay w s a) (pending w s a) (F .costs a) _ _ _
         (k .value a) (k .costs-are a) (day-gain a) (worth-closed a) (finals-same w F (told w (s .day) F (Close room)) a (λ m. refl));
   }
 

@@ -80,6 +80,7 @@ start-answered w law m low high = by (firstFrom (w .opens) (start m) (daysIn m))
   where
     read : (o : Option ℕ) → firstFrom (w .opens) (start m) (daysIn m) ≡ o → startDay w m ≡ valueOr o 0
     read o e = ap (λ x. valueOr x 0) (cond-true (ltb m 1200) (firstFrom (w .opens) (start m) (daysIn m)) None (lt-ltb m 1200 (omega arith)) ∙ e)
+
     by : (o : Option ℕ) → firstFrom (w .opens) (start m) (daysIn m) ≡ o → answers w (startDay w m) ≡ true
     by None e =
         let none : NoneIn (w .opens) (start m) (start (m + 1)) = λ k l u. none-found (w .opens) (daysIn m) (start m) e k l (omega (arith, start-next m)) in

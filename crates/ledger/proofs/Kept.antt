@@ -82,14 +82,14 @@ module _ (w : Meaning) (law : Laws w) (s : State) where
     past-empty : (m : ℕ) → Past w s m → (a : ℕ) → heldNow w s a m ≡ pos 0
     past-empty m p a =
         sum-nil (w .classes) (λ c. ifZ (has (classNow w s c) m) (s .lots a c)) (λ c l.
-          ⊎-elim
-          (λ (q : c ≡ w .settling). subst (λ c. ifZ (has (classNow w s c) m) (s .lots a c) ≡ pos 0) (sym q) (here p))
-          (λ (q : c ≡ w .settling → ⊥).
-            ⊎-elim
-            (λ (y : has (classNow w s c) m ≡ true). absurd (not-before m (past-before (k .answered) m c m p q y)))
-            (λ (y : has (classNow w s c) m ≡ false). cond-false _ (s .lots a c) (pos 0) y)
-            (cases-bool (has (classNow w s c) m)))
-          (cases-eq c (w .settling)))
+        ⊎-elim
+        (λ (q : c ≡ w .settling). subst (λ c. ifZ (has (classNow w s c) m) (s .lots a c) ≡ pos 0) (sym q) (here p))
+        (λ (q : c ≡ w .settling → ⊥).
+        ⊎-elim
+        (λ (y : has (classNow w s c) m ≡ true). absurd (not-before m (past-before (k .answered) m c m p q y)))
+        (λ (y : has (classNow w s c) m ≡ false). cond-false _ (s .lots a c) (pos 0) y)
+        (cases-bool (has (classNow w s c) m)))
+        (cases-eq c (w .settling)))
       where
         here : Past w s m → ifZ (has (classNow w s (w .settling)) m) (s .lots a (w .settling)) ≡ pos 0
         here (inl p) =
@@ -116,7 +116,7 @@ finals-nil w n F z = weighed-nil n 1200 (F .net) (λ m. pos (w .quantity m) *ℤ
 worths-nil : (w : Meaning) (F : Figures) (s : State) → Kept w F s → sumZ (s .accounts) (worth w s) ≡ pos 0
 worths-nil w F s k =
     weighed-nil (s .accounts) (w .classes) (λ a c. s .lots a c -ℤ s .traded a c) (λ c. pos (quantityNow w s c) *ℤ orZero (s .last c))
-      (λ c. sum-sub (s .accounts) (λ a. s .lots a c) (λ a. s .traded a c) ∙ (λ i. k .lots-nil c i -ℤ k .traded-nil c i))
+    (λ c. sum-sub (s .accounts) (λ a. s .lots a c) (λ a. s .traded a c) ∙ (λ i. k .lots-nil c i -ℤ k .traded-nil c i))
 
 -- ---- the law
 
@@ -132,21 +132,24 @@ over c b v t e = omega (arith, ints)
 
 pub kept-ledger : (w : Meaning) → Laws w → (start : ℕ) (h : History) (s : State) → dayAfter w start h ≡ s .day → lasts w start h ≡ s .last → Kept w (figuresOf w start h) s → Ledger w start h s
 kept-ledger w law start h s today last k = record {
-    lots-balance = k .lots-nil;
-    cash-balances =
+  lots-balance = k .lots-nil;
+  cash-balances =
       all-nil (sumZ n (s .cash)) (sumZ n (F .booked)) (sumZ n (worth w s)) (sumZ n (finals w F))
-        (sym (sum-add n (s .cash) (F .booked)) ∙ sum-same n (λ a. s .cash a +ℤ F .booked a) (λ a. worth w s a +ℤ finals w F a) (λ a _. k .value a) ∙ sum-add n (worth w s) (finals w F))
-        (k .booked-nil) (worths-nil w F s k) (finals-nil w n F (k .net-nil));
-    open-months = λ a m l e. held-is a m ∙ k .open-held a m e;
-    settled-months = λ a m f l e. held-is a m ∙ past-empty w law s F k m (k .past m f e) a;
-    cash-explained = λ a l. over (s .cash a) (F .booked a) (worth w s a) (finals w F a) (k .value a) ∙ (λ i. worth-is a i +ℤ finals-are w start h s a i -ℤ F .booked a);
-  }
+      (sym (sum-add n (s .cash) (F .booked)) ∙ sum-same n (λ a. s .cash a +ℤ F .booked a) (λ a. worth w s a +ℤ finals w F a) (λ a _. k .value a) ∙ sum-add n (worth w s) (finals w F))
+      (k .booked-nil) (worths-nil w F s k) (finals-nil w n F (k .net-nil));
+  open-months = λ a m l e. held-is a m ∙ k .open-held a m e;
+  settled-months = λ a m f l e. held-is a m ∙ past-empty w law s F k m (k .past m f e) a;
+  cash-explained = λ a l. over (s .cash a) (F .booked a) (worth w s a) (finals w F a) (k .value a) ∙ (λ i. worth-is a i +ℤ finals-are w start h s a i -ℤ F .booked a);
+}
   where
     n : ℕ
     n = s .accounts
+
     F : Figures
     F = figuresOf w start h
+
     held-is : (a m : ℕ) → held w start h s a m ≡ heldNow w s a m
     held-is a m = λ i. sumZ (w .classes) (λ c. ifZ (has (w .on (today i) c) m) (s .lots a c))
+
     worth-is : (a : ℕ) → worth w s a ≡ atLast w start h s a
     worth-is a = sym (λ i. sumZ (w .classes) (λ c. (s .lots a c -ℤ k .since-is a c i) *ℤ (pos (classQuantity w (w .on (today i) c)) *ℤ orZero (last i c))))

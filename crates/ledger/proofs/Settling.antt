@@ -61,54 +61,63 @@ joined c b v t g l pay v′ t′ e1 e2 e3 e4 = omega (arith, ints)
 
 pub settle-kept : (w : Meaning) → Laws w → (F : Figures) (s : State) → Kept w F s → (f : ℤ) (room : ℕ) → settleRefusal w s f room ≡ None → Kept w (told w (s .day) F (Settle f room)) (settled w s f)
 settle-kept w law F s k f room q = record {
-    answered = k .answered;
-    lots-nil = λ c.
+  answered = k .answered;
+  lots-nil = λ c.
       ⊎-elim
       (λ (z : c ≡ S). sum-nil n (λ a. put (s .lots a) S (pos 0) c) (λ a l. put-here c S (pos 0) (s .lots a c) z))
       (λ (z : c ≡ S → ⊥). sum-same n (λ a. put (s .lots a) S (pos 0) c) (λ a. s .lots a c) (λ a l. put-there c S (pos 0) (s .lots a c) z) ∙ k .lots-nil c)
       (cases-eq c S);
-    traded-nil = k .traded-nil;
-    net-nil = k .net-nil;
-    costs-nil = k .costs-nil;
-    booked-nil = k .booked-nil;
-    since-is = k .since-is;
-    costs-are = k .costs-are;
-    idle = k .idle;
-    unpriced = λ a c y.
+  traded-nil = k .traded-nil;
+  net-nil = k .net-nil;
+  costs-nil = k .costs-nil;
+  booked-nil = k .booked-nil;
+  since-is = k .since-is;
+  costs-are = k .costs-are;
+  idle = k .idle;
+  unpriced = λ a c y.
       ⊎-elim
       (λ (z : c ≡ S). put-here c S (pos 0) (s .lots a c) z ∙ sym (subst (λ c. s .traded a c ≡ pos 0) (sym z) (none-traded a)))
       (λ (z : c ≡ S → ⊥). put-there c S (pos 0) (s .lots a c) z ∙ k .unpriced a c (sym (put-there c S None (s .last c) z) ∙ y))
       (cases-eq c S);
-    past = λ m g y. now-past m g (cases-bool (has (classNow w s S) m)) y;
-    open-held = λ a m y.
+  past = λ m g y. now-past m g (cases-bool (has (classNow w s S) m)) y;
+  open-held = λ a m y.
       ⊎-elim
       (λ (z : has (classNow w s S) m ≡ true). absurd (some-none (final′ m) f (settled-now m z) y))
       (λ (z : has (classNow w s S) m ≡ false). held-same a m z ∙ k .open-held a m (sym (as-before m z) ∙ y))
       (cases-bool (has (classNow w s S) m));
-    value = λ a.
+  value = λ a.
       joined (s .cash a) (F .booked a) (worth w s a) (finals w F a) (s .lots a S *ℤ (Q *ℤ f)) (s .lots a S *ℤ (Q *ℤ P)) _ _ _
-        (final-paid (quantityNow w s S) (s .lots a S) f P) (k .value a) (worth-less a)
-        (finals-more w F (told w (s .day) F (Settle f room)) a (classNow w s S) (s .lots a S) f (one a));
-  }
+      (final-paid (quantityNow w s S) (s .lots a S) f P) (k .value a) (worth-less a)
+      (finals-more w F (told w (s .day) F (Settle f room)) a (classNow w s S) (s .lots a S) f (one a));
+}
   where
     n : ℕ
     n = s .accounts
+
     S : ℕ
     S = w .settling
+
     Q : ℤ
     Q = pos (quantityNow w s S)
+
     P : ℤ
     P = orZero (s .last S)
+
     priced : s .last S ≡ None → ⊥
     priced = given-some (s .last S) (ask-none (isSome (s .last S)) _ _ (ask-none (leb (s .accounts) room) _ _ q .1) .0)
+
     none-traded : (a : ℕ) → s .traded a S ≡ pos 0
     none-traded a = k .idle a S (law .untraded (s .day)) .0
+
     final′ : ℕ → Option ℤ
     final′ m = firstOf (cond (has (classNow w s S) m) (Some f) None) (F .final m)
+
     settled-now : (m : ℕ) → has (classNow w s S) m ≡ true → final′ m ≡ Some f
     settled-now m z = ap (λ t. firstOf (cond t (Some f) None) (F .final m)) z
+
     as-before : (m : ℕ) → has (classNow w s S) m ≡ false → final′ m ≡ F .final m
     as-before m z = ap (λ t. firstOf (cond t (Some f) None) (F .final m)) z
+
     now-past : (m : ℕ) (g : ℤ) → (has (classNow w s S) m ≡ true) ⊎ (has (classNow w s S) m ≡ false) → final′ m ≡ Some g → Past w (settled w s f) m
     now-past m g (inl z) y = inl (z, put-here S S None (s .last S) refl)
     now-past m g (inr z) y = again (k .past m g (sym (as-before m z) ∙ y))
@@ -116,24 +125,27 @@ settle-kept w law F s k f room q = record {
         again : Past w s m → Past w (settled w s f) m
         again (inl p) = absurd (priced (p .1))
         again (inr p) = inr p
+
     held-same : (a m : ℕ) → has (classNow w s S) m ≡ false → heldNow w (settled w s f) a m ≡ heldNow w s a m
     held-same a m z =
         sum-same (w .classes) (λ c. ifZ (has (classNow w s c) m) (put (s .lots a) S (pos 0) c)) (λ c. ifZ (has (classNow w s c) m) (s .lots a c)) (λ c l.
-          ⊎-elim
-          (λ (e : c ≡ S).
-            let no : has (classNow w s c) m ≡ false = subst (λ c. has (classNow w s c) m ≡ false) (sym e) z in
-            cond-false _ (put (s .lots a) S (pos 0) c) (pos 0) no ∙ sym (cond-false _ (s .lots a c) (pos 0) no))
-          (λ (e : c ≡ S → ⊥). ap (ifZ (has (classNow w s c) m)) (put-there c S (pos 0) (s .lots a c) e))
-          (cases-eq c S))
+        ⊎-elim
+        (λ (e : c ≡ S).
+        let no : has (classNow w s c) m ≡ false = subst (λ c. has (classNow w s c) m ≡ false) (sym e) z in
+        cond-false _ (put (s .lots a) S (pos 0) c) (pos 0) no ∙ sym (cond-false _ (s .lots a c) (pos 0) no))
+        (λ (e : c ≡ S → ⊥). ap (ifZ (has (classNow w s c) m)) (put-there c S (pos 0) (s .lots a c) e))
+        (cases-eq c S))
+
     -- in the months of the settling class an account holds its lots there
     held-there : (a m : ℕ) → has (classNow w s S) m ≡ true → heldNow w s a m ≡ s .lots a S
     held-there a m z =
         sum-one (w .classes) S (λ c. ifZ (has (classNow w s c) m) (s .lots a c)) (law .settles) (λ c l ne.
-          ⊎-elim
-          (λ (y : has (classNow w s c) m ≡ true). absurd (not-before m (law .later (s .day) c m m ne z y)))
-          (λ (y : has (classNow w s c) m ≡ false). cond-false _ (s .lots a c) (pos 0) y)
-          (cases-bool (has (classNow w s c) m)))
+        ⊎-elim
+        (λ (y : has (classNow w s c) m ≡ true). absurd (not-before m (law .later (s .day) c m m ne z y)))
+        (λ (y : has (classNow w s c) m ≡ false). cond-false _ (s .lots a c) (pos 0) y)
+        (cases-bool (has (classNow w s c) m)))
         ∙ cond-true _ (s .lots a S) (pos 0) z
+
     -- and none of them was settled before
     unsettled : (m : ℕ) → has (classNow w s S) m ≡ true → (o : Option ℤ) → F .final m ≡ o → F .final m ≡ None
     unsettled m z None e = e
@@ -142,34 +154,39 @@ settle-kept w law F s k f room q = record {
         not-past : Past w s m → ⊥
         not-past (inl p) = priced (p .1)
         not-past (inr p) = not-before m (p m z)
+
     one : (a m : ℕ) → oneFinal w (told w (s .day) F (Settle f room)) a m ≡ oneFinal w F a m +ℤ ifZ (has (classNow w s S) m) (s .lots a S *ℤ (pos (w .quantity m) *ℤ f))
     one a m =
         ⊎-elim
         (λ (z : has (classNow w s S) m ≡ true).
-          let u = unsettled m z (F .final m) refl in
-          in-class (has (classNow w s S) m) (pos (w .quantity m)) (F .net a m) (s .lots a S) (orZero (final′ m)) f (orZero (F .final m)) z
-            (ap orZero (settled-now m z)) (sym (k .open-held a m u) ∙ held-there a m z) (ap orZero u))
+        let u = unsettled m z (F .final m) refl in
+        in-class (has (classNow w s S) m) (pos (w .quantity m)) (F .net a m) (s .lots a S) (orZero (final′ m)) f (orZero (F .final m)) z
+        (ap orZero (settled-now m z)) (sym (k .open-held a m u) ∙ held-there a m z) (ap orZero u))
         (λ (z : has (classNow w s S) m ≡ false).
-          other-class (has (classNow w s S) m) (F .net a m) (pos (w .quantity m) *ℤ orZero (final′ m)) (pos (w .quantity m) *ℤ orZero (F .final m)) _ z
-            (ap (λ o. pos (w .quantity m) *ℤ orZero o) (as-before m z)))
+        other-class (has (classNow w s S) m) (F .net a m) (pos (w .quantity m) *ℤ orZero (final′ m)) (pos (w .quantity m) *ℤ orZero (F .final m)) _ z
+        (ap (λ o. pos (w .quantity m) *ℤ orZero o) (as-before m z)))
         (cases-bool (has (classNow w s S) m))
+
     at : ℕ → ℕ → ℤ
     at a c = (s .lots a c -ℤ s .traded a c) *ℤ (pos (quantityNow w s c) *ℤ orZero (s .last c))
+
     at′ : ℕ → ℕ → ℤ
     at′ a c = (put (s .lots a) S (pos 0) c -ℤ s .traded a c) *ℤ (pos (quantityNow w s c) *ℤ orZero (put (s .last) S None c))
+
     worth-one : (a c : ℕ) → at′ a c ≡ at a c -ℤ ifZ (eqb c S) (s .lots a S *ℤ (Q *ℤ P))
     worth-one a c =
         ⊎-elim
         (λ (z : c ≡ S).
-          subst (λ c. at′ a c ≡ at a c -ℤ ifZ (eqb c S) (s .lots a S *ℤ (Q *ℤ P))) (sym z)
-            (minus-all (at′ a S) (at a S) (ifZ (eqb S S) (s .lots a S *ℤ (Q *ℤ P)))
-              (ap (λ o. (put (s .lots a) S (pos 0) S -ℤ s .traded a S) *ℤ (Q *ℤ orZero o)) (put-here S S None (s .last S) refl)
-                ∙ ap (λ v. (put (s .lots a) S (pos 0) S -ℤ s .traded a S) *ℤ v) (*ℤ-zero Q) ∙ *ℤ-zero (put (s .lots a) S (pos 0) S -ℤ s .traded a S))
-              (ap (λ v. v *ℤ (Q *ℤ P)) (sym (minus-none (s .lots a S) (s .traded a S) (none-traded a))) ∙ sym (hit S S (s .lots a S *ℤ (Q *ℤ P)) refl))))
+        subst (λ c. at′ a c ≡ at a c -ℤ ifZ (eqb c S) (s .lots a S *ℤ (Q *ℤ P))) (sym z)
+        (minus-all (at′ a S) (at a S) (ifZ (eqb S S) (s .lots a S *ℤ (Q *ℤ P)))
+        (ap (λ o. (put (s .lots a) S (pos 0) S -ℤ s .traded a S) *ℤ (Q *ℤ orZero o)) (put-here S S None (s .last S) refl)
+        ∙ ap (λ v. (put (s .lots a) S (pos 0) S -ℤ s .traded a S) *ℤ v) (*ℤ-zero Q) ∙ *ℤ-zero (put (s .lots a) S (pos 0) S -ℤ s .traded a S))
+        (ap (λ v. v *ℤ (Q *ℤ P)) (sym (minus-none (s .lots a S) (s .traded a S) (none-traded a))) ∙ sym (hit S S (s .lots a S *ℤ (Q *ℤ P)) refl))))
         (λ (z : c ≡ S → ⊥).
-          (λ i. (put-there c S (pos 0) (s .lots a c) z i -ℤ s .traded a c) *ℤ (pos (quantityNow w s c) *ℤ orZero (put-there c S None (s .last c) z i)))
-          ∙ minus-none (at a c) (ifZ (eqb c S) (s .lots a S *ℤ (Q *ℤ P))) (miss c S (s .lots a S *ℤ (Q *ℤ P)) z))
+        (λ i. (put-there c S (pos 0) (s .lots a c) z i -ℤ s .traded a c) *ℤ (pos (quantityNow w s c) *ℤ orZero (put-there c S None (s .last c) z i)))
+        ∙ minus-none (at a c) (ifZ (eqb c S) (s .lots a S *ℤ (Q *ℤ P))) (miss c S (s .lots a S *ℤ (Q *ℤ P)) z))
         (cases-eq c S)
+
     worth-less : (a : ℕ) → worth w (settled w s f) a ≡ worth w s a -ℤ s .lots a S *ℤ (Q *ℤ P)
     worth-less a =
         sum-same (w .classes) (at′ a) (λ c. at a c -ℤ ifZ (eqb c S) (s .lots a S *ℤ (Q *ℤ P))) (λ c l. worth-one a c)

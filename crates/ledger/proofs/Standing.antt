@@ -64,8 +64,8 @@ made-kept w n d a = record {
   past = λ m f e. absurd (some-none None f e refl);
   open-held = λ a m e. sum-nil (w .classes) (λ c. ifZ (has (w .on d c) m) (pos 0)) (λ c l. if-zero (has (w .on d c) m));
   value = λ a.
-    let e : worth w (started n d) a ≡ pos 0 = sum-nil (w .classes) (λ c. (pos 0 -ℤ pos 0) *ℤ (pos (classQuantity w (w .on d c)) *ℤ pos 0)) (λ c l. zero-*ℤ (pos (classQuantity w (w .on d c)) *ℤ pos 0)) in
-    sym (λ i. e i +ℤ finals-none w a i);
+      let e : worth w (started n d) a ≡ pos 0 = sum-nil (w .classes) (λ c. (pos 0 -ℤ pos 0) *ℤ (pos (classQuantity w (w .on d c)) *ℤ pos 0)) (λ c l. zero-*ℤ (pos (classQuantity w (w .on d c)) *ℤ pos 0)) in
+      sym (λ i. e i +ℤ finals-none w a i);
 }
 
 made-follows : (w : Meaning) (start n : ℕ) → Follows w start [] (made w start n)

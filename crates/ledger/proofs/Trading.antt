@@ -52,55 +52,64 @@ at-quantity q = record { adds = λ c x y. *ℤ-left-distrib (q c) x y; nil = λ 
 
 pub trade-kept : (w : Meaning) → Laws w → (F : Figures) (s : State) → Kept w F s → (buyer seller c : ℕ) (x p : ℤ) → tradeRefusal w s buyer seller c x p ≡ None → Kept w (told w (s .day) F (Trade buyer seller c x p)) (traded s buyer seller c x p)
 trade-kept w law F s k b e c x p q = record {
-    answered = k .answered;
-    lots-nil = λ i. share-adds n b e x b-known e-known (eqb i c) (λ a. s .lots a i) (k .lots-nil i);
-    traded-nil = λ i. share-adds n b e x b-known e-known (eqb i c) (λ a. s .traded a i) (k .traded-nil i);
-    net-nil = λ m. share-adds n b e x b-known e-known (has (classNow w s c) m) (λ a. F .net a m) (k .net-nil m);
-    costs-nil =
+  answered = k .answered;
+  lots-nil = λ i. share-adds n b e x b-known e-known (eqb i c) (λ a. s .lots a i) (k .lots-nil i);
+  traded-nil = λ i. share-adds n b e x b-known e-known (eqb i c) (λ a. s .traded a i) (k .traded-nil i);
+  net-nil = λ m. share-adds n b e x b-known e-known (has (classNow w s c) m) (λ a. F .net a m) (k .net-nil m);
+  costs-nil =
       sum-add n (F .costs) (λ a. Q *ℤ (share b e x a *ℤ p))
       ∙ (λ i. k .costs-nil i +ℤ (sum-left n Q (λ a. share b e x a *ℤ p) ∙ ap (λ v. Q *ℤ v) (sum-right n (share b e x) p ∙ ap (λ v. v *ℤ p) (share-nil n b e x b-known e-known) ∙ zero-*ℤ p) ∙ *ℤ-zero Q) i);
-    booked-nil = k .booked-nil;
-    since-is = λ a i. ap (λ v. v +ℤ ifZ (eqb i c) (share b e x a)) (k .since-is a i);
-    costs-are = λ a.
+  booked-nil = k .booked-nil;
+  since-is = λ a i. ap (λ v. v +ℤ ifZ (eqb i c) (share b e x a)) (k .since-is a i);
+  costs-are = λ a.
       ap (λ v. v +ℤ Q *ℤ (share b e x a *ℤ p)) (k .costs-are a)
       ∙ regroup (F .booked a) (pending w s a) (Q *ℤ (share b e x a *ℤ p))
       ∙ ap (λ v. F .booked a +ℤ v) (sym (one-more (λ i v. pos (quantityNow w s i) *ℤ v) (at-quantity (λ i. pos (quantityNow w s i))) (w .classes) c (s .cost a) (share b e x a *ℤ p) c-known));
-    idle = λ a i y.
+  idle = λ a i y.
       let ne : i ≡ c → ⊥ = λ (z : i ≡ c). false≢true (sym y ∙ ap (λ j. tradable (classNow w s j)) z ∙ opened) in
       let o = k .idle a i y in
       ((λ j. o .0 j +ℤ miss i c (share b e x a) ne j), (λ j. o .1 j +ℤ miss i c (share b e x a *ℤ p) ne j));
-    unpriced = λ a i y. ap (λ v. v +ℤ ifZ (eqb i c) (share b e x a)) (k .unpriced a i y);
-    past = k .past;
-    open-held = λ a m y.
+  unpriced = λ a i y. ap (λ v. v +ℤ ifZ (eqb i c) (share b e x a)) (k .unpriced a i y);
+  past = k .past;
+  open-held = λ a m y.
       one-more (λ i v. ifZ (has (classNow w s i) m) v) (where-so (λ i. has (classNow w s i) m)) (w .classes) c (s .lots a) (share b e x a) c-known
       ∙ ap (λ v. v +ℤ ifZ (has (classNow w s c) m) (share b e x a)) (k .open-held a m y);
-    value = λ a. k .value a ∙ sym (λ i. worth-same a i +ℤ finals-are a i);
-  }
+  value = λ a. k .value a ∙ sym (λ i. worth-same a i +ℤ finals-are a i);
+}
   where
     n : ℕ
     n = s .accounts
+
     Q : ℤ
     Q = pos (quantityNow w s c)
+
     opened : tradable (classNow w s c) ≡ true
     opened = ask-none (tradable (classNow w s c)) _ _ (ask-none (not (eqb b e)) _ _ (ask-none (known s b && known s e) _ _ q .1) .1) .0
+
     both : (known s b ≡ true) × (known s e ≡ true)
     both = and-parts (known s b) (known s e) (ask-none (known s b && known s e) _ _ q .0)
+
     b-known : b < n
     b-known = ltb-true b (s .accounts) (both .0)
+
     e-known : e < n
     e-known = ltb-true e (s .accounts) (both .1)
+
     c-known : c < w .classes
     c-known = tradable-known w law (s .day) c opened
+
     worth-same : (a : ℕ) → worth w (traded s b e c x p) a ≡ worth w s a
     worth-same a = λ i. sumZ (w .classes) (λ j. same-before (s .lots a j) (s .traded a j) (ifZ (eqb j c) (share b e x a)) i *ℤ (pos (quantityNow w s j) *ℤ orZero (s .last j)))
+
     -- nobody trades a settled month
     one : (a m : ℕ) (o : Option ℤ) → F .final m ≡ o → (F .net a m +ℤ ifZ (has (classNow w s c) m) (share b e x a)) *ℤ (pos (w .quantity m) *ℤ orZero o) ≡ F .net a m *ℤ (pos (w .quantity m) *ℤ orZero o)
     one a m None y = unsettled (F .net a m +ℤ ifZ (has (classNow w s c) m) (share b e x a)) (F .net a m) (pos (w .quantity m))
     one a m (Some f) y =
         let no : has (classNow w s c) m ≡ false = ⊎-elim
-              (λ (z : has (classNow w s c) m ≡ true). absurd (not-before m (past-before w law s (k .answered) m c m (k .past m f y) (not-settling w law (s .day) c opened) z)))
-              (λ (z : has (classNow w s c) m ≡ false). z)
-              (cases-bool (has (classNow w s c) m)) in
+        (λ (z : has (classNow w s c) m ≡ true). absurd (not-before m (past-before w law s (k .answered) m c m (k .past m f y) (not-settling w law (s .day) c opened) z)))
+        (λ (z : has (classNow w s c) m ≡ false). z)
+        (cases-bool (has (classNow w s c) m)) in
         ap (λ v. v *ℤ (pos (w .quantity m) *ℤ f)) (plus-none (F .net a m) _ (cond-false _ (share b e x a) (pos 0) no))
+
     finals-are : (a : ℕ) → finals w (told w (s .day) F (Trade b e c x p)) a ≡ finals w F a
     finals-are a = finals-same w F (told w (s .day) F (Trade b e c x p)) a (λ m. one a m (F .final m) refl)

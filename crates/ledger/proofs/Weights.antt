@@ -58,7 +58,7 @@ regroup : (x y z : ℤ) → x +ℤ y -ℤ z ≡ x +ℤ (y -ℤ z)
 regroup x y z = omega (arith, ints)
 
 module _ (n : ℕ) (part : ℕ → ℕ → Bool) (whole : ℕ → Bool) (G : ℕ → ℤ → ℤ) (ad : Additive G) (l : ℕ → ℤ)
-  (flat : (e c : ℕ) → whole c ≡ true → part e c ≡ false) where
+    (flat : (e c : ℕ) → whole c ≡ true → part e c ≡ false) where
   -- the lots of a class once each class with parts gave its lots to them
   abbrev handed : ℕ → ℤ
   handed c = cond (whole c) (pos 0) (l c +ℤ sumZ n (λ e. ifZ (part e c) (l e)))
@@ -70,15 +70,15 @@ module _ (n : ℕ) (part : ℕ → ℕ → Bool) (whole : ℕ → Bool) (G : ℕ
   handed-one c =
       ⊎-elim
       (λ (q : whole c ≡ true).
-        ap (G c) (cond-true (whole c) (pos 0) _ q) ∙ ad .nil c
-        ∙ back (G c (l c)) (came c) (sum-nil n (λ e. ifZ (part e c) (G c (l e))) (λ e k. cond-false (part e c) (G c (l e)) (pos 0) (flat e c q)))
-        ∙ ap (λ v. G c (l c) +ℤ came c -ℤ v) (sym (cond-true (whole c) (G c (l c)) (pos 0) q)))
+      ap (G c) (cond-true (whole c) (pos 0) _ q) ∙ ad .nil c
+      ∙ back (G c (l c)) (came c) (sum-nil n (λ e. ifZ (part e c) (G c (l e))) (λ e k. cond-false (part e c) (G c (l e)) (pos 0) (flat e c q)))
+      ∙ ap (λ v. G c (l c) +ℤ came c -ℤ v) (sym (cond-true (whole c) (G c (l c)) (pos 0) q)))
       (λ (q : whole c ≡ false).
-        ap (G c) (cond-false (whole c) (pos 0) (l c +ℤ sumZ n (λ e. ifZ (part e c) (l e))) q)
-        ∙ ad .adds c (l c) (sumZ n (λ e. ifZ (part e c) (l e)))
-        ∙ ap (λ v. G c (l c) +ℤ v) (sum-through G ad c n (λ e. ifZ (part e c) (l e)) ∙ sum-same n (λ e. G c (ifZ (part e c) (l e))) (λ e. ifZ (part e c) (G c (l e))) (λ e k. if-through G ad c (part e c) (l e)))
-        ∙ plain (G c (l c)) (came c)
-        ∙ ap (λ v. G c (l c) +ℤ came c -ℤ v) (sym (cond-false (whole c) (G c (l c)) (pos 0) q)))
+      ap (G c) (cond-false (whole c) (pos 0) (l c +ℤ sumZ n (λ e. ifZ (part e c) (l e))) q)
+      ∙ ad .adds c (l c) (sumZ n (λ e. ifZ (part e c) (l e)))
+      ∙ ap (λ v. G c (l c) +ℤ v) (sum-through G ad c n (λ e. ifZ (part e c) (l e)) ∙ sum-same n (λ e. G c (ifZ (part e c) (l e))) (λ e. ifZ (part e c) (G c (l e))) (λ e k. if-through G ad c (part e c) (l e)))
+      ∙ plain (G c (l c)) (came c)
+      ∙ ap (λ v. G c (l c) +ℤ came c -ℤ v) (sym (cond-false (whole c) (G c (l c)) (pos 0) q)))
       (cases-bool (whole c))
 
   -- what handing on a class's lots changes
@@ -101,12 +101,12 @@ module _ (next : ℕ → Option ℕ) (t : ℕ) where
   source-is (suc n) c e =
       ⊎-elim
       (λ (q : names (next n) t ≡ true).
-        let f : Some n ≡ Some c = sym (cond-true (names (next n) t) (Some n) (sourceBelow next t n) q) ∙ e in
-        let g : n ≡ c = cc f in
-        (omega arith, subst (λ k. next k ≡ Some t) g (names-true _ t q)))
+      let f : Some n ≡ Some c = sym (cond-true (names (next n) t) (Some n) (sourceBelow next t n) q) ∙ e in
+      let g : n ≡ c = cc f in
+      (omega arith, subst (λ k. next k ≡ Some t) g (names-true _ t q)))
       (λ (q : names (next n) t ≡ false).
-        let r = source-is n c (sym (cond-false (names (next n) t) (Some n) (sourceBelow next t n) q) ∙ e) in
-        (omega (arith, r .0), r .1))
+      let r = source-is n c (sym (cond-false (names (next n) t) (Some n) (sourceBelow next t n) q) ∙ e) in
+      (omega (arith, r .0), r .1))
       (cases-bool (names (next n) t))
 
   pub source-here : (n c : ℕ) → c < n → ((e : ℕ) → next e ≡ Some t → c ≡ e) → next c ≡ Some t → sourceBelow next t n ≡ Some c
@@ -115,8 +115,8 @@ module _ (next : ℕ → Option ℕ) (t : ℕ) where
       ⊎-elim
       (λ (q : names (next n) t ≡ true). cond-true (names (next n) t) (Some n) (sourceBelow next t n) q ∙ ap Some (sym (one n (names-true _ t q))))
       (λ (q : names (next n) t ≡ false).
-        let ne : c ≡ n → ⊥ = λ (z : c ≡ n). false≢true (sym q ∙ names-yes (next n) t (subst (λ k. next k ≡ Some t) z e)) in
-        cond-false (names (next n) t) (Some n) (sourceBelow next t n) q ∙ source-here n c (omega arith) one e)
+      let ne : c ≡ n → ⊥ = λ (z : c ≡ n). false≢true (sym q ∙ names-yes (next n) t (subst (λ k. next k ≡ Some t) z e)) in
+      cond-false (names (next n) t) (Some n) (sourceBelow next t n) q ∙ source-here n c (omega arith) one e)
       (cases-bool (names (next n) t))
 
   source-none : (n : ℕ) → sourceBelow next t n ≡ None → (c : ℕ) → c < n → next c ≡ Some t → ⊥
@@ -125,10 +125,10 @@ module _ (next : ℕ → Option ℕ) (t : ℕ) where
       ⊎-elim
       (λ (q : names (next n) t ≡ true). some-none (Some n) n refl (sym (cond-true (names (next n) t) (Some n) (sourceBelow next t n) q) ∙ e))
       (λ (q : names (next n) t ≡ false).
-        ⊎-elim
-        (λ (z : c ≡ n). false≢true (sym q ∙ names-yes (next n) t (subst (λ k. next k ≡ Some t) z y)))
-        (λ (z : c ≡ n → ⊥). source-none n (sym (cond-false (names (next n) t) (Some n) (sourceBelow next t n) q) ∙ e) c (omega arith) y)
-        (cases-eq c n))
+      ⊎-elim
+      (λ (z : c ≡ n). false≢true (sym q ∙ names-yes (next n) t (subst (λ k. next k ≡ Some t) z y)))
+      (λ (z : c ≡ n → ⊥). source-none n (sym (cond-false (names (next n) t) (Some n) (sourceBelow next t n) q) ∙ e) c (omega arith) y)
+      (cases-eq c n))
       (cases-bool (names (next n) t))
 
 module _ (n : ℕ) (next : ℕ → Option ℕ) (apart : (c e s : ℕ) → next c ≡ Some s → next e ≡ Some s → c ≡ e) where
@@ -145,16 +145,16 @@ module _ (n : ℕ) (next : ℕ → Option ℕ) (apart : (c e s : ℕ) → next c
       by (Some c) e =
           let r = source-is next t n c e in
           sym (sum-one n c (λ k. ifZ (names (next k) t) (f k)) (r .0) (λ k h ne.
-            ⊎-elim
-            (λ (q : names (next k) t ≡ true). absurd (ne (apart k c t (names-true _ t q) (r .1))))
-            (λ (q : names (next k) t ≡ false). cond-false _ (f k) (pos 0) q)
-            (cases-bool (names (next k) t)))
+          ⊎-elim
+          (λ (q : names (next k) t ≡ true). absurd (ne (apart k c t (names-true _ t q) (r .1))))
+          (λ (q : names (next k) t ≡ false). cond-false _ (f k) (pos 0) q)
+          (cases-bool (names (next k) t)))
           ∙ cond-true (names (next c) t) (f c) (pos 0) (names-yes (next c) t (r .1)))
 
   module _ (G G′ : ℕ → ℤ → ℤ) (ad : Additive G) (ad′ : Additive G′) (l : ℕ → ℤ)
-    (known : (c t : ℕ) → next c ≡ Some t → t < n)
-    (same : (c t : ℕ) (x : ℤ) → c < n → next c ≡ Some t → G′ t x ≡ G c x)
-    (ends : (c : ℕ) → c < n → next c ≡ None → l c ≡ pos 0) where
+      (known : (c t : ℕ) → next c ≡ Some t → t < n)
+      (same : (c t : ℕ) (x : ℤ) → c < n → next c ≡ Some t → G′ t x ≡ G c x)
+      (ends : (c : ℕ) → c < n → next c ≡ None → l c ≡ pos 0) where
     one-class : (c : ℕ) → c < n → (o : Option ℕ) → next c ≡ o → sumZ n (λ t. G′ t (ifZ (names o t) (l c))) ≡ G c (l c)
     one-class c h None e = sum-nil n (λ t. G′ t (pos 0)) (λ t k. ad′ .nil t) ∙ sym (ap (G c) (ends c h e) ∙ ad .nil c)
     one-class c h (Some s) e =
@@ -165,6 +165,6 @@ module _ (n : ℕ) (next : ℕ → Option ℕ) (apart : (c e s : ℕ) → next c
     pub moved-weigh : sumZ n (λ t. G′ t (from (sourceBelow next t n) (pos 0) l)) ≡ sumZ n (λ c. G c (l c))
     moved-weigh =
         sum-same n (λ t. G′ t (from (sourceBelow next t n) (pos 0) l)) (λ t. sumZ n (λ c. G′ t (ifZ (names (next c) t) (l c))))
-          (λ t h. ap (G′ t) (source-sum t l) ∙ sum-through G′ ad′ t n (λ c. ifZ (names (next c) t) (l c)))
+        (λ t h. ap (G′ t) (source-sum t l) ∙ sum-through G′ ad′ t n (λ c. ifZ (names (next c) t) (l c)))
         ∙ sum-swap n n (λ t c. G′ t (ifZ (names (next c) t) (l c)))
         ∙ sum-same n (λ c. sumZ n (λ t. G′ t (ifZ (names (next c) t) (l c)))) (λ c. G c (l c)) (λ c h. one-class c h (next c) refl)

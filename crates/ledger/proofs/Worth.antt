@@ -46,7 +46,7 @@ whole-worth false q x r = sym (if-times false q (x *ℤ r))
 pub parts-paid : (n : ℕ) (part : ℕ → Bool) (whole : Bool) (q : ℕ → ℕ) (P : ℕ → ℤ) (Q : ℕ) (R x : ℤ) → sumZ n (λ p. ifZ (part p) (pos (q p))) ≡ ifZ whole (pos Q) → sumZ n (λ p. ifZ (part p) (x *ℤ (pos (q p) *ℤ P p))) -ℤ ifZ whole (x *ℤ (pos Q *ℤ R)) ≡ sumZ n (λ p. ifZ (part p) (partPayment (q p) x (P p) R))
 parts-paid n part whole q P Q R x e =
     ap (λ v. sumZ n (λ p. ifZ (part p) (x *ℤ (pos (q p) *ℤ P p))) -ℤ v)
-      (whole-worth whole (pos Q) x R ∙ ap (λ v. v *ℤ (x *ℤ R)) (sym e) ∙ sym (sum-right n (λ p. ifZ (part p) (pos (q p))) (x *ℤ R)))
+    (whole-worth whole (pos Q) x R ∙ ap (λ v. v *ℤ (x *ℤ R)) (sym e) ∙ sym (sum-right n (λ p. ifZ (part p) (pos (q p))) (x *ℤ R)))
     ∙ sym (sum-sub n (λ p. ifZ (part p) (x *ℤ (pos (q p) *ℤ P p))) (λ p. ifZ (part p) (pos (q p)) *ℤ (x *ℤ R)))
     ∙ sum-same n _ (λ p. ifZ (part p) (partPayment (q p) x (P p) R)) (λ p l. part-paid (part p) (q p) x (P p) R)
 

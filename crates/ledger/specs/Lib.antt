@@ -3,6 +3,8 @@ pub mod Words
 pub mod State
 pub mod Calls
 pub mod Make
+pub mod Questions
 pub mod History
 pub mod Ledger
 pub mod Tables
+pub mod TablesLaw
