@@ -1,0 +1,4 @@
+pub mod Known
+pub mod Trades
+pub mod ClassLines
+pub mod Fresh

@@ -1,0 +1,3 @@
+// Examples for the calls of the book.
+#[cfg(test)]
+mod tests;
