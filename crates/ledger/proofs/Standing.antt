@@ -1,5 +1,5 @@
 -- The law of the ledger, along every history. Assumes nothing.
-use mathlib.Core.Path.{_≡_, refl, sym, subst}
+use mathlib.Core.Path.{_≡_, refl, sym, ap, subst, _∙_}
 use mathlib.Core.Bool.{true, _&&_}
 use mathlib.Core.List.{[], _∷_}
 use Prim.Native.Nat.{ℕ}
@@ -122,8 +122,30 @@ along w law start n a [] s r =
 along w law start n a (e ∷ h) s r =
     subst (Along w start (e ∷ h)) (sym (r .3)) (entry-along w law start e h (r .0) (along w law start n a h (r .0) (r .1)) (refusal w (r .0) (e .call)) (r .2) refl)
 
+-- no call changes the number of accounts
+same-accounts : (w : Meaning) (s : State) (k : Call) (o : Option Fault) → unless o (done w s k) s .accounts ≡ s .accounts
+same-accounts w s (Trade buyer seller c n p) None = refl
+same-accounts w s (Mark c p) None = refl
+same-accounts w s (Reprice c p) None = refl
+same-accounts w s (Settle f room) None = refl
+same-accounts w s (Close room) None = refl
+same-accounts w s k (Some x) = refl
+
+accounts-along : (w : Meaning) (start : State) (h : History) (s : State) → Reached w start h s → s .accounts ≡ start .accounts
+accounts-along w start [] s r = ap (λ (t : State). t .accounts) r
+accounts-along w start (e ∷ h) s r =
+    ap (λ (t : State). t .accounts) (r .3) ∙ same-accounts w (r .0) (e .call) (refusal w (r .0) (e .call)) ∙ accounts-along w start h (r .0) (r .1)
+
 pub ledger-stands : LedgerStands
 ledger-stands w law start n lines q h s r =
     let months = and-parts (leb 12 start) (leb start 1163) (ask-none (leb 12 start && leb start 1163) _ _ (ask-none (leb 2 n && leb n 32) _ _ q .1) .0) in
     let g = along w law start n (start-answered w law start (leb-true 12 start (months .0)) (leb-true start 1163 (months .1))) h s r in
-    kept-ledger w law start h s (g .follows .day) (g .follows .last) (g .kept)
+    let f = g .follows in (
+      kept-ledger w law start h s (f .day) (f .last) (g .kept),
+      record {
+        count = accounts-along w (made w start n) h s r;
+        day = sym (f .day);
+        today = λ c. sym (ap (λ (p : ℕ → Option ℤ). p c) (f .today));
+        last = λ c. sym (ap (λ (p : ℕ → Option ℤ). p c) (f .last));
+      },
+    )

@@ -4,9 +4,9 @@ use mathlib.Core.Bool.{Bool, true, false, _&&_, cond}
 use mathlib.Core.List.{List, [], _∷_}
 use Prim.Native.Nat.{ℕ}
 use lib.Dec.{eqb}
-use lib.IntN.{ℤ, pos, _+ℤ_, _*ℤ_}
+use lib.IntN.{ℤ, pos, negℤ, _+ℤ_, _*ℤ_}
 use Rattle.amounts.specs.SumsOfWhole.{ifZ}
-use Rattle.ledger.specs.Calls.{share, sourceBelow}
+use Rattle.ledger.specs.Calls.{sourceBelow}
 use Rattle.ledger.specs.State.{startDay, nextDay}
 use Rattle.ledger.specs.Words.{put, from}
 use Rattle.ledger.specs.declared.call.Call.{Call}
@@ -46,9 +46,13 @@ dayAfter w start (e ∷ h) = cond (closes e) (nextDay w (dayAfter w start h)) (d
 
 -- ---- what one accepted call means on a day
 
+-- an account's lots in a trade: a buy by the buyer, a sell by the seller
+abbrev pub dealt : ℕ → ℕ → ℤ → ℕ → ℤ
+dealt buyer seller n a = ifZ (eqb a buyer) n +ℤ ifZ (eqb a seller) (negℤ n)
+
 -- an account's buys less sells of a month: those of a trade whose class has the month that day
 abbrev pub monthLots : Meaning → ℕ → Call → ℕ → ℕ → ℤ
-monthLots w d (Trade buyer seller c n p) a m = ifZ (has (w .on d c) m) (share buyer seller n a)
+monthLots w d (Trade buyer seller c n p) a m = ifZ (has (w .on d c) m) (dealt buyer seller n a)
 monthLots w d (Mark c p) a m = pos 0
 monthLots w d (Reprice c p) a m = pos 0
 monthLots w d (Settle f room) a m = pos 0
@@ -56,7 +60,7 @@ monthLots w d (Close room) a m = pos 0
 
 -- an account's buys less sells in a class
 abbrev pub classLots : Call → ℕ → ℕ → ℤ
-classLots (Trade buyer seller c n p) a i = ifZ (eqb i c) (share buyer seller n a)
+classLots (Trade buyer seller c n p) a i = ifZ (eqb i c) (dealt buyer seller n a)
 classLots (Mark c p) a i = pos 0
 classLots (Reprice c p) a i = pos 0
 classLots (Settle f room) a i = pos 0
@@ -64,7 +68,7 @@ classLots (Close room) a i = pos 0
 
 -- an account's trade at cost: lots × the class's quantity that day × price, sales negative
 abbrev pub atCost : Meaning → ℕ → Call → ℕ → ℤ
-atCost w d (Trade buyer seller c n p) a = pos (classQuantity w (w .on d c)) *ℤ (share buyer seller n a *ℤ p)
+atCost w d (Trade buyer seller c n p) a = pos (classQuantity w (w .on d c)) *ℤ (dealt buyer seller n a *ℤ p)
 atCost w d (Mark c p) a = pos 0
 atCost w d (Reprice c p) a = pos 0
 atCost w d (Settle f room) a = pos 0

@@ -6,7 +6,7 @@ use lib.IntN.{ℤ, pos, _+ℤ_, _*ℤ_, _-ℤ_}
 use Rattle.amounts.specs.SumsOfWhole.{sumZ, ifZ}
 use Rattle.coded.specs.declared.class_line.ClassLine.{ClassLine}
 use Rattle.ledger.specs.Calls.{refusal, after}
-use Rattle.ledger.specs.History.{History, dayAfter, net, since, booked, final, lasts}
+use Rattle.ledger.specs.History.{History, dayAfter, net, since, booked, final, prices, lasts}
 use Rattle.ledger.specs.Make.{makeRefusal, made}
 use Rattle.ledger.specs.State.{State}
 use Rattle.ledger.specs.Words.{orZero}
@@ -46,8 +46,15 @@ module _ (w : Meaning) (start : ℕ) (h : History) (s : State) where
     -- its cash is its holdings at last prices, plus its settled months at final prices, less its trades at cost
     pub cash-explained : (a : ℕ) → a < s .accounts → s .cash a ≡ atLast a +ℤ atFinal a -ℤ booked w start h a
 
+  -- The book has the accounts that it was made with, and its day and its prices are those that its history tells.
+  pub record Agrees (accounts : ℕ) : Type 0 where
+    pub count : s .accounts ≡ accounts
+    pub day : s .day ≡ dayAfter w start h
+    pub today : (c : ℕ) → s .today c ≡ prices w start h c
+    pub last : (c : ℕ) → s .last c ≡ lasts w start h c
+
 -- The law holds of every book that any accepted make began and any history reached, under all terms that keep their laws:
 -- so at the start and after each call.
 abbrev pub LedgerStands : Type 0
 LedgerStands =
-    (w : Meaning) → Laws w → (start accounts : ℕ) (lines : List ClassLine) → makeRefusal w start accounts lines ≡ None → (h : History) (s : State) → Reached w (made w start accounts) h s → Ledger w start h s
+    (w : Meaning) → Laws w → (start accounts : ℕ) (lines : List ClassLine) → makeRefusal w start accounts lines ≡ None → (h : History) (s : State) → Reached w (made w start accounts) h s → Ledger w start h s × Agrees w start h s accounts
