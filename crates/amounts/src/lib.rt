@@ -1,3 +1,4 @@
+#![tactic(auto)]
 // Arithmetic of margins and payments, in whole cents.
 mod margins;
 mod payments;

@@ -1,3 +1,4 @@
+#![tactic(auto)]
 // Margins and payments by example.
 #[cfg(test)]
 mod tests;

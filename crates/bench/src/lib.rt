@@ -1,3 +1,4 @@
+#![tactic(auto)]
 // The figures of the bench's standing set-up: start month, margin interval, price.
 
 // The month in its year, from 0, in which the bench's stories begin: March.

@@ -1,3 +1,4 @@
+#![tactic(auto)]
 // The book: its calls over any terms.
 mod book;
 mod close;

@@ -1,3 +1,4 @@
+#![tactic(auto)]
 // Examples for the calls of the book.
 #[cfg(test)]
 mod tests;

@@ -1,3 +1,4 @@
+#![tactic(auto)]
 // Calendars: which days are open, and the walks and counts over any set of days.
 mod calendar;
 mod day_set;

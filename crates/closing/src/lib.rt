@@ -1,3 +1,4 @@
+#![tactic(auto)]
 // What the close of a day does: variation margin, cascading and shifting, class by class.
 mod closing;
 mod moves;

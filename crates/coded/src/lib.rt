@@ -1,3 +1,4 @@
+#![tactic(auto)]
 // Finding by code number: one way for every kind of coded entry.
 mod class_line;
 mod coded;

@@ -1,3 +1,4 @@
+#![tactic(auto)]
 // Days and months from 1 January 2000 to 31 December 2099, by number.
 mod date;
 mod months;

@@ -1,3 +1,4 @@
+#![tactic(auto)]
 // The bench's figures, and the law of the ledger for power and wheat.
 mod stands;
 

@@ -1,3 +1,4 @@
+#![tactic(auto)]
 // A buyer's file of closed days, and a built-in one.
 mod builtin;
 mod file;

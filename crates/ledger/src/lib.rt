@@ -1,3 +1,4 @@
+#![tactic(auto)]
 // The definitions of the book, and the law of the ledger on them.
 mod call;
 mod entry;

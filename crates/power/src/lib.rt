@@ -1,3 +1,4 @@
+#![tactic(auto)]
 // Power terms: months, quarters and years of Baseload and Peakload over any calendar.
 mod class;
 mod hours;

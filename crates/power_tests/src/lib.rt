@@ -1,3 +1,4 @@
+#![tactic(auto)]
 // Examples for power terms.
 #[cfg(test)]
 mod tests;

@@ -1,3 +1,4 @@
+#![tactic(auto)]
 // A tiny product: the next month trades, the current one settles.
 //
 // This crate shows how to write terms of one's own, in three steps. `specs/Single.antt` says what each class is on a day,

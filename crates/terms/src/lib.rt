@@ -1,3 +1,4 @@
+#![tactic(auto)]
 // Terms: which classes there are on a day, and the laws that every product keeps.
 mod answering;
 mod class_terms;

@@ -1,3 +1,4 @@
+#![tactic(auto)]
 // Lines and numbers read from bytes.
 mod lines;
 mod numbers;

@@ -1,3 +1,4 @@
+#![tactic(auto)]
 // Follows one real task from start to end and says in plain sentences what took place.
 mod book_story;
 mod calendar_story;

@@ -1,3 +1,4 @@
+#![tactic(auto)]
 // Durum-wheat terms over any calendar.
 mod classes;
 mod expiries;

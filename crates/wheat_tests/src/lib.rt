@@ -1,3 +1,4 @@
+#![tactic(auto)]
 // Durum wheat by example, over the weekday calendar.
 #[cfg(test)]
 mod tests;
