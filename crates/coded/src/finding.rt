@@ -14,7 +14,7 @@ enum Probe {
 
 fn code_at<E: Coded>(entries: &[E], i: usize) -> u32
     requires { i < length entries.now }
-    ensures { result ≡ slice_index (map number entries.now) i }
+    ensures { result ≡ slice_index (map E.number entries.now) i }
 {
     entries[i].code()
 }
@@ -22,7 +22,7 @@ fn code_at<E: Coded>(entries: &[E], i: usize) -> u32
 // Whether the code at a place comes before the one that is sought, is it, or comes after it.
 fn look<E: Coded>(entries: &[E], i: usize, code: u32) -> Probe
     requires { i < length entries.now }
-    ensures { result ≡ probed (slice_index (map number entries.now) i) code }
+    ensures { result ≡ probed (slice_index (map E.number entries.now) i) code }
 {
     let here = code_at(entries, i);
     if here == code {
@@ -37,8 +37,8 @@ fn look<E: Coded>(entries: &[E], i: usize, code: u32) -> Probe
 // The place of the entry that has the code. Where the codes rise, it is the one place that has it, or none has; in any
 // other list an entry that is found has the code, and one that has it may be missed.
 pub fn find<E: Coded>(entries: &[E], code: u32) -> Option<usize>
-    ensures found { IfSome result (λ i. (i < length entries.now) × (slice_index (map number entries.now) i ≡ code)) }
-    ensures rising { Rising (map number entries.now) → result ≡ place (map number entries.now) code }
+    ensures found { IfSome result (λ i. (i < length entries.now) × (slice_index (map E.number entries.now) i ≡ code)) }
+    ensures rising { Rising (map E.number entries.now) → result ≡ place (map E.number entries.now) code }
 {
     let mut low = 0;
     let mut high = entries.len();

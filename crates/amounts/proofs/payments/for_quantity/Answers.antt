@@ -16,5 +16,5 @@ pub returns : goal.returns
 returns c = record {
   is = (product c).is;
   bound = rw (product c).is (product_le (pos c.args.quantity) c.args.gain (2 ^ 33) (2 ^ 65) (omega (arith, ints)) (omega (arith, ints)));
-  other-side = other-side-pays;
+  other_side = other-side-pays;
 }

@@ -12,4 +12,4 @@ returns c =
     let d = c.args.new -ℤ c.args.old in
     let e : to_z w128 (of_z w128 c.times.result) ≡ q *ℤ h *ℤ d = grind (arith, to_z-of_z) in
     let s = product_le q h (2 ^ 32) (2 ^ 31) (omega (arith, ints)) (omega (arith, ints)) in
-    record { is = e; bound = rw e (product_le (q *ℤ h) d (2 ^ 63) (2 ^ 33) s (omega (arith, ints))); other-side = other-side-pays }
+    record { is = e; bound = rw e (product_le (q *ℤ h) d (2 ^ 63) (2 ^ 33) s (omega (arith, ints))); other_side = other-side-pays }

@@ -17,7 +17,7 @@ returns-then-b-lt48 c =
       | then-b-lt48-via-then-b-lt48 w ↦ digit-no _ (inl w.if-b-lt48.true)
       | then-b-lt48-via-else-b-lt48+then-b-gt57 w ↦ digit-no _ (inr w.if-b-gt57.true)
     ] in
-    let some = false-eqb _ _ c.if-is-empty.ensures in
+    let some = false-eqb _ _ c.if-is_empty.ensures in
     record {
       value = sym (right-length c.args.s.now (omega arith) c.if-s-gt9.false ∙ sym c.loop-b.invariant.0 ∙ stops c.loop-b.n c.args.s.now c.loop-b.b-index c.loop-b-test.true no);
       bound = tt;
@@ -38,7 +38,7 @@ loop-b-preserved c = (
 
 pub returns : goal.returns
 returns c =
-    let some = false-eqb _ _ c.if-is-empty.ensures in
+    let some = false-eqb _ _ c.if-is_empty.ensures in
     record {
       value = sym (right-length c.args.s.now (omega arith) c.if-s-gt9.false ∙ sym c.loop-b.invariant.0 ∙ ends c.loop-b.n c.args.s.now c.loop-b.b-index c.loop-b-test.false);
       bound = let b = nine-digits c.loop-b.b-index (omega arith) in omega arith;
