@@ -1,10 +1,11 @@
 -- The product of a step, and the least of the ten results. Assumes nothing.
-use Rattle.std.proofs.Common.{◌≡◌, ℕ, ◌+◌, ◌*◌, ◌^◌, ◌<◌, ◌≤◌, Bool, true, false, cond, List, [], ◌∷◌, map, length, get_or, take, ℤ, pos, negsuc, ◌*ℤ◌, neg_ℤ, nat_abs, ◌≤ℤ◌, fold, All, Contains, sym, refl, ap, ◌∙◌, subst, ⊎_elim, arith, lit<, lit≤}
+use Rattle.std.proofs.Common.{◌≡◌, ℕ, ◌+◌, ◌*◌, ◌^◌, ◌<◌, ◌≤◌, Bool, true, false, cond, List, [], ◌∷◌, map, length, get_or, take, ℤ, pos, negsuc, ◌*ℤ◌, neg_ℤ, nat_abs, ◌≤ℤ◌, fold, All, Contains, sym, refl, ap, ◌∙◌, subst, ⊎_elim, arith, lit<, leb}
 use lib.Signed.{lt_z}
 use Rattle.std.proofs.lemmas.List.Elements.{All-get_or, All-contains, All-map, All-weaker, Contains-get_or}
 use Rattle.std.proofs.lemmas.List.{get_or-map, map_more}
 use Rattle.std.proofs.lemmas.Int.{ints, by_lt_z, fold-int_min_bounds, fold-int_min_reached}
-use Rattle.std.proofs.lemmas.List.Sums.{fold_push}
+use Rattle.std.proofs.lemmas.List.Sums.{fold_push, AllPass-from_list_all}
+use Rattle.std.proofs.lemmas.Bool.{leb-true}
 use Rattle.std.specs.Int.{int_min}
 use Rattle.amounts.specs.Amounts.{step_product, step_result, floor_by, ten_results, class_margin, LeastOfTen}
 use Rattle.amounts.specs.Steps.{all_steps, factor_of, steps}
@@ -77,7 +78,13 @@ floor-size (pos a) l = omega arith
 floor-size (negsuc a) l = omega arith
 
 small-steps : All (λ s. nat_abs s ≤ 5) steps
-small-steps = (lit≤ tt, (lit≤ tt, (lit≤ tt, (lit≤ tt, (lit≤ tt, (lit≤ tt, (lit≤ tt, (lit≤ tt, (lit≤ tt, (lit≤ tt, tt))))))))))
+small-steps =
+    All-weaker
+    (λ s. leb (nat_abs s) 5 ≡ true)
+    (λ s. nat_abs s ≤ 5)
+    (λ s e. leb-true (nat_abs s) 5 e)
+    steps
+    (AllPass-from_list_all (λ s. leb (nat_abs s) 5) steps refl)
 
 pub margin-size : (P : ℤ) (i q : ℕ) (h r : ℤ) → nat_abs P ≤ 2 ^ 31 → i ≤ 2 ^ 16 → q ≤ 2 ^ 32 → nat_abs h ≤ 2 ^ 31 → LeastOfTen P i q h r → nat_abs r ≤ 2 ^ 98
 margin-size P i q h r hp hi hq hh least =

@@ -145,9 +145,9 @@ impl Tables {
 
 impl<T: Terms> Book<T> {
     fn close_all(&mut self, list: &mut [Payment]) -> Result<(), Fault>
-        ensures answer { result ≡ reply (close_refusal (meaning self.old.terms) (view self.old.tables) (length list.old)) tt }
-        ensures after { self.new.tables ≡ after_tables (meaning self.old.terms) self.old.tables (Close (length list.old)) }
-        ensures list { list.new ≡ list_after_close (meaning self.old.terms) (view self.old.tables) list.old }
+        ensures answer { result ≡ reply (close_refusal (T.meaning self.old.terms) (view self.old.tables) (length list.old)) tt }
+        ensures after { self.new.tables ≡ after_tables (T.meaning self.old.terms) self.old.tables (Close (length list.old)) }
+        ensures list { list.new ≡ list_after_close (T.meaning self.old.terms) (view self.old.tables) list.old }
         ensures terms { self.new.terms ≡ self.old.terms }
     {
         let closing = Closing::of(&self.terms, self.tables.day);
@@ -163,11 +163,11 @@ impl<T: Terms> Book<T> {
 
     // The end of the day: variation margin, cascading and shifting. The list gets a line for each account.
     pub fn close(&mut self, list: &mut [Payment]) -> Result<(), Fault>
-        ensures answer { result ≡ reply (close_refusal (meaning self.old.terms) (view self.old.tables) (length list.old)) tt }
-        ensures after { self.new.tables ≡ after_tables (meaning self.old.terms) self.old.tables (Close (length list.old)) }
-        ensures list { list.new ≡ list_after_close (meaning self.old.terms) (view self.old.tables) list.old }
+        ensures answer { result ≡ reply (close_refusal (T.meaning self.old.terms) (view self.old.tables) (length list.old)) tt }
+        ensures after { self.new.tables ≡ after_tables (T.meaning self.old.terms) self.old.tables (Close (length list.old)) }
+        ensures list { list.new ≡ list_after_close (T.meaning self.old.terms) (view self.old.tables) list.old }
         ensures terms { self.new.terms ≡ self.old.terms }
-        ensures life { LivesOn (meaning self.old.terms) self.old.tables (Close (length list.old)) self.new.tables }
+        ensures life { LivesOn (T.meaning self.old.terms) self.old.tables (Close (length list.old)) self.new.tables }
     {
         self.close_all(list)
     }

@@ -30,8 +30,8 @@ fn fault_of(answer: Result<(), Fault>) -> Option<Fault>
 impl<T: Terms> Book<T> {
     // A settle whose payment list has so many lines.
     fn settle_with(&mut self, price: i32, room: usize) -> Option<Fault>
-        ensures answer { result ≡ refusal (meaning self.old.terms) (view self.old.tables) (Settle price room) }
-        ensures after { self.new.tables ≡ after_tables (meaning self.old.terms) self.old.tables (Settle price room) }
+        ensures answer { result ≡ refusal (T.meaning self.old.terms) (view self.old.tables) (Settle price room) }
+        ensures after { self.new.tables ≡ after_tables (T.meaning self.old.terms) self.old.tables (Settle price room) }
         ensures terms { self.new.terms ≡ self.old.terms }
     {
         let mut list = [NO_PAYMENT; 32];
@@ -40,8 +40,8 @@ impl<T: Terms> Book<T> {
 
     // A close whose payment list has so many lines.
     fn close_with(&mut self, room: usize) -> Option<Fault>
-        ensures answer { result ≡ refusal (meaning self.old.terms) (view self.old.tables) (Close room) }
-        ensures after { self.new.tables ≡ after_tables (meaning self.old.terms) self.old.tables (Close room) }
+        ensures answer { result ≡ refusal (T.meaning self.old.terms) (view self.old.tables) (Close room) }
+        ensures after { self.new.tables ≡ after_tables (T.meaning self.old.terms) self.old.tables (Close room) }
         ensures terms { self.new.terms ≡ self.old.terms }
     {
         let mut list = [NO_PAYMENT; 32];
@@ -50,8 +50,8 @@ impl<T: Terms> Book<T> {
 
     // Any call; its answer is the question answered no, or none.
     pub fn call(&mut self, call: Call) -> Option<Fault>
-        ensures answer { result ≡ refusal (meaning self.old.terms) (view self.old.tables) call }
-        ensures after { self.new.tables ≡ after_tables (meaning self.old.terms) self.old.tables call }
+        ensures answer { result ≡ refusal (T.meaning self.old.terms) (view self.old.tables) call }
+        ensures after { self.new.tables ≡ after_tables (T.meaning self.old.terms) self.old.tables call }
         ensures terms { self.new.terms ≡ self.old.terms }
     {
         match call {
@@ -73,8 +73,8 @@ impl<T: Terms> Book<T> {
 impl<T: Terms> Book<T> {
     // The call of an entry; its answer is written beside it.
     fn enter(&mut self, entry: &mut Entry)
-        ensures entry { entry.new ≡ record { call = entry.old.call; answer = refusal (meaning self.old.terms) (view self.old.tables) entry.old.call } }
-        ensures after { self.new.tables ≡ after_tables (meaning self.old.terms) self.old.tables entry.old.call }
+        ensures entry { entry.new ≡ record { call = entry.old.call; answer = refusal (T.meaning self.old.terms) (view self.old.tables) entry.old.call } }
+        ensures after { self.new.tables ≡ after_tables (T.meaning self.old.terms) self.old.tables entry.old.call }
         ensures terms { self.new.terms ≡ self.old.terms }
     {
         entry.answer = self.call(entry.call);
@@ -89,9 +89,9 @@ impl<T: Terms> Book<T> {
         lines: &[ClassLine],
         entries: &mut [Entry],
     ) -> Result<Book<T>, NotMade<T>>
-        ensures answer { MatchResult result (λ b. (make_refusal (meaning terms) month accounts lines.now ≡ None) × (b.terms ≡ terms)) (λ e. (make_refusal (meaning terms) month accounts lines.now ≡ Some e.fault) × (e.terms ≡ terms) × (entries.new ≡ entries.old)) }
+        ensures answer { MatchResult result (λ b. (make_refusal (T.meaning terms) month accounts lines.now ≡ None) × (b.terms ≡ terms)) (λ e. (make_refusal (T.meaning terms) month accounts lines.now ≡ Some e.fault) × (e.terms ≡ terms) × (entries.new ≡ entries.old)) }
         ensures calls { map (λ e. e.call) entries.new ≡ map (λ e. e.call) entries.old }
-        ensures life { IfOk result (λ b. Life (meaning terms) month accounts lines.now (reverse entries.new) b.tables) }
+        ensures life { IfOk result (λ b. Life (T.meaning terms) month accounts lines.now (reverse entries.new) b.tables) }
     {
         let mut book = Book::make(terms, month, accounts, lines)?;
         for entry in entries.iter_mut() {

@@ -64,7 +64,7 @@ fn make_refused<T: Terms>(
     accounts: u32,
     lines: &[ClassLine],
 ) -> Option<Fault>
-    ensures { result ≡ make_refusal (meaning terms.now) month accounts lines.now }
+    ensures { result ≡ make_refusal (T.meaning terms.now) month accounts lines.now }
 {
     if accounts < 2 || accounts > 32 {
         return Some(Fault::AccountCount);
@@ -80,7 +80,7 @@ fn make_refused<T: Terms>(
 
 // A new book's tables.
 fn fresh<T: Terms>(terms: &T, month: u32, accounts: u32, lines: &[ClassLine]) -> Tables
-    ensures { result ≡ made_tables (meaning terms.now) month accounts lines.now }
+    ensures { result ≡ made_tables (T.meaning terms.now) month accounts lines.now }
 {
     let empty = Account {
         lots: [0; 12],
@@ -119,8 +119,8 @@ impl<T: Terms> Book<T> {
         accounts: u32,
         lines: &[ClassLine],
     ) -> Result<Book<T>, NotMade<T>>
-        ensures answer { MatchResult result (λ b. (make_refusal (meaning terms) month accounts lines.now ≡ None) × (b.terms ≡ terms) × (b.tables ≡ made_tables (meaning terms) month accounts lines.now)) (λ e. (make_refusal (meaning terms) month accounts lines.now ≡ Some e.fault) × (e.terms ≡ terms)) }
-        ensures life { IfOk result (λ b. Life (meaning terms) month accounts lines.now [] b.tables) }
+        ensures answer { MatchResult result (λ b. (make_refusal (T.meaning terms) month accounts lines.now ≡ None) × (b.terms ≡ terms) × (b.tables ≡ made_tables (T.meaning terms) month accounts lines.now)) (λ e. (make_refusal (T.meaning terms) month accounts lines.now ≡ Some e.fault) × (e.terms ≡ terms)) }
+        ensures life { IfOk result (λ b. Life (T.meaning terms) month accounts lines.now [] b.tables) }
     {
         if let Some(fault) = make_refused(&terms, month, accounts, lines) {
             return Err(NotMade { fault, terms });

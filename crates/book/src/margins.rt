@@ -76,7 +76,7 @@ impl Tables {
 impl<T: Terms> Book<T> {
     fn holds_priced(&self, account: u32) -> bool
         requires { account < 32 }
-        ensures { result ≡ held_priced (meaning self.now.terms) (view self.now.tables) account }
+        ensures { result ≡ held_priced (T.meaning self.now.terms) (view self.now.tables) account }
     {
         for class in 0..self.terms.classes() {
             if !self.tables.is_priced_for(account, class) {
@@ -88,7 +88,7 @@ impl<T: Terms> Book<T> {
 
     // The interval of the class whose interval a class takes that day.
     fn interval_of(&self, class: u32) -> u16
-        ensures { result ≡ interval_of self.now.tables.lines ((meaning self.now.terms).on self.now.tables.day class) }
+        ensures { result ≡ interval_of self.now.tables.lines ((T.meaning self.now.terms).on self.now.tables.day class) }
     {
         match self.terms.class_on(self.tables.day, class) {
             Some(here) => self.tables.interval(here.interval_class),
@@ -99,7 +99,7 @@ impl<T: Terms> Book<T> {
     // An account's margin in a class.
     fn margin_in(&self, account: u32, class: u32) -> i128
         requires { (account < 32) × (class < 12) }
-        ensures is { result ≡ margin_in (meaning self.now.terms) self.now.tables.lines (view self.now.tables) account class }
+        ensures is { result ≡ margin_in (T.meaning self.now.terms) self.now.tables.lines (view self.now.tables) account class }
         ensures bound { unsigned_abs result ≤ 2 ^ 101 }
     {
         margin_of(
@@ -113,7 +113,7 @@ impl<T: Terms> Book<T> {
     // The sum over all classes.
     fn margin_sum(&self, account: u32) -> i128
         requires { account < 32 }
-        ensures { result ≡ sum_z (meaning self.now.terms).classes (margin_in (meaning self.now.terms) self.now.tables.lines (view self.now.tables) account) }
+        ensures { result ≡ sum_z (T.meaning self.now.terms).classes (margin_in (T.meaning self.now.terms) self.now.tables.lines (view self.now.tables) account) }
     {
         let mut sum = 0;
         for class in 0..self.terms.classes() {
@@ -124,7 +124,7 @@ impl<T: Terms> Book<T> {
 
     // An account's total margin, never positive: every class that it holds must have a last price.
     pub fn margins(&self, account: u32) -> Result<i128, Fault>
-        ensures { result ≡ reply (margins_refusal (meaning self.now.terms) (view self.now.tables) account) (marginsOf (meaning self.now.terms) self.now.tables.lines (view self.now.tables) account) }
+        ensures { result ≡ reply (margins_refusal (T.meaning self.now.terms) (view self.now.tables) account) (marginsOf (T.meaning self.now.terms) self.now.tables.lines (view self.now.tables) account) }
     {
         if !self.known(account) {
             return Err(Fault::UnknownAccount);

@@ -21,7 +21,7 @@ pub(crate) fn price_fits(price: i32) -> bool
 
 impl<T: Terms> Book<T> {
     pub(crate) fn is_tradable(&self, class: u32) -> bool
-        ensures is { result ≡ tradable ((meaning self.now.terms).on self.now.tables.day class) }
+        ensures is { result ≡ tradable ((T.meaning self.now.terms).on self.now.tables.day class) }
         ensures known { result ≡ true → class < 12 }
     {
         match self.terms.class_on(self.tables.day, class) {
@@ -31,7 +31,7 @@ impl<T: Terms> Book<T> {
     }
 
     fn mark_refused(&self, class: u32, price: i32) -> Option<Fault>
-        ensures is { result ≡ mark_refusal (meaning self.now.terms) (view self.now.tables) class price }
+        ensures is { result ≡ mark_refusal (T.meaning self.now.terms) (view self.now.tables) class price }
         ensures known { result ≡ None → class < 12 }
     {
         if !self.is_tradable(class) {
@@ -46,8 +46,8 @@ impl<T: Terms> Book<T> {
 
 impl<T: Terms> Book<T> {
     fn set_mark(&mut self, class: u32, price: i32) -> Result<(), Fault>
-        ensures answer { result ≡ reply (mark_refusal (meaning self.old.terms) (view self.old.tables) class price) tt }
-        ensures after { self.new.tables ≡ after_tables (meaning self.old.terms) self.old.tables (Mark class price) }
+        ensures answer { result ≡ reply (mark_refusal (T.meaning self.old.terms) (view self.old.tables) class price) tt }
+        ensures after { self.new.tables ≡ after_tables (T.meaning self.old.terms) self.old.tables (Mark class price) }
         ensures terms { self.new.terms ≡ self.old.terms }
     {
         if let Some(fault) = self.mark_refused(class, price) {
@@ -59,10 +59,10 @@ impl<T: Terms> Book<T> {
 
     // The day's price of a tradable class; a later mark replaces an earlier one.
     pub fn mark(&mut self, class: u32, price: i32) -> Result<(), Fault>
-        ensures answer { result ≡ reply (mark_refusal (meaning self.old.terms) (view self.old.tables) class price) tt }
-        ensures after { self.new.tables ≡ after_tables (meaning self.old.terms) self.old.tables (Mark class price) }
+        ensures answer { result ≡ reply (mark_refusal (T.meaning self.old.terms) (view self.old.tables) class price) tt }
+        ensures after { self.new.tables ≡ after_tables (T.meaning self.old.terms) self.old.tables (Mark class price) }
         ensures terms { self.new.terms ≡ self.old.terms }
-        ensures life { LivesOn (meaning self.old.terms) self.old.tables (Mark class price) self.new.tables }
+        ensures life { LivesOn (T.meaning self.old.terms) self.old.tables (Mark class price) self.new.tables }
     {
         self.set_mark(class, price)
     }
@@ -71,7 +71,7 @@ impl<T: Terms> Book<T> {
 impl<T: Terms> Book<T> {
     // Whether a class is a delivery class with a last price.
     fn is_repriceable(&self, class: u32) -> bool
-        ensures is { result ≡ (nat_lt class (meaning self.now.terms).classes && (not (tradable ((meaning self.now.terms).on self.now.tables.day class)) && is_some ((view self.now.tables).last class))) }
+        ensures is { result ≡ (nat_lt class (T.meaning self.now.terms).classes && (not (tradable ((T.meaning self.now.terms).on self.now.tables.day class)) && is_some ((view self.now.tables).last class))) }
         ensures known { result ≡ true → class < 12 }
     {
         class < self.terms.classes()
@@ -81,7 +81,7 @@ impl<T: Terms> Book<T> {
     }
 
     fn reprice_refused(&self, class: u32, price: i32) -> Option<Fault>
-        ensures is { result ≡ reprice_refusal (meaning self.now.terms) (view self.now.tables) class price }
+        ensures is { result ≡ reprice_refusal (T.meaning self.now.terms) (view self.now.tables) class price }
         ensures known { result ≡ None → class < 12 }
     {
         if !self.is_repriceable(class) {
@@ -94,8 +94,8 @@ impl<T: Terms> Book<T> {
     }
 
     fn set_repricing(&mut self, class: u32, price: i32) -> Result<(), Fault>
-        ensures answer { result ≡ reply (reprice_refusal (meaning self.old.terms) (view self.old.tables) class price) tt }
-        ensures after { self.new.tables ≡ after_tables (meaning self.old.terms) self.old.tables (Reprice class price) }
+        ensures answer { result ≡ reply (reprice_refusal (T.meaning self.old.terms) (view self.old.tables) class price) tt }
+        ensures after { self.new.tables ≡ after_tables (T.meaning self.old.terms) self.old.tables (Reprice class price) }
         ensures terms { self.new.terms ≡ self.old.terms }
     {
         if let Some(fault) = self.reprice_refused(class, price) {
@@ -107,10 +107,10 @@ impl<T: Terms> Book<T> {
 
     // A new price of a delivery class, for margins only.
     pub fn reprice(&mut self, class: u32, price: i32) -> Result<(), Fault>
-        ensures answer { result ≡ reply (reprice_refusal (meaning self.old.terms) (view self.old.tables) class price) tt }
-        ensures after { self.new.tables ≡ after_tables (meaning self.old.terms) self.old.tables (Reprice class price) }
+        ensures answer { result ≡ reply (reprice_refusal (T.meaning self.old.terms) (view self.old.tables) class price) tt }
+        ensures after { self.new.tables ≡ after_tables (T.meaning self.old.terms) self.old.tables (Reprice class price) }
         ensures terms { self.new.terms ≡ self.old.terms }
-        ensures life { LivesOn (meaning self.old.terms) self.old.tables (Reprice class price) self.new.tables }
+        ensures life { LivesOn (T.meaning self.old.terms) self.old.tables (Reprice class price) self.new.tables }
     {
         self.set_repricing(class, price)
     }

@@ -62,7 +62,7 @@ impl<T: Terms> Book<T> {
 
     // An account's lots in a class.
     pub fn holding(&self, account: u32, class: u32) -> Result<i32, Fault>
-        ensures { result ≡ reply (holding_refusal (meaning self.now.terms) (view self.now.tables) account class) (holdingOf (view self.now.tables) account class) }
+        ensures { result ≡ reply (holding_refusal (T.meaning self.now.terms) (view self.now.tables) account class) (holdingOf (view self.now.tables) account class) }
     {
         if !self.known(account) {
             return Err(Fault::UnknownAccount);

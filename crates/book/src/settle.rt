@@ -72,7 +72,7 @@ impl Tables {
 impl<T: Terms> Book<T> {
     // The settling class, which is one of the table.
     pub(crate) fn settling(&self) -> u32
-        ensures is { result ≡ (meaning self.now.terms).settling }
+        ensures is { result ≡ (T.meaning self.now.terms).settling }
         ensures known { result < 12 }
     {
         self.terms.settling()
@@ -80,7 +80,7 @@ impl<T: Terms> Book<T> {
 
     // The first of the questions before the cash that is answered no.
     fn settle_refused(&self, price: i32, room: usize) -> Option<Fault>
-        ensures { result ≡ may_settle (meaning self.now.terms) (view self.now.tables) price room }
+        ensures { result ≡ may_settle (T.meaning self.now.terms) (view self.now.tables) price room }
     {
         if (self.tables.count as usize) > room {
             return Some(Fault::ListTooShort);
@@ -98,7 +98,7 @@ impl<T: Terms> Book<T> {
 impl<T: Terms> Book<T> {
     // What each account is paid.
     fn settle_pays(&self, price: i32) -> [i128; 32]
-        ensures each { (a : ℕ) → a < self.now.tables.count → at result a ≡ settle_pay (meaning self.now.terms) (view self.now.tables) price a }
+        ensures each { (a : ℕ) → a < self.now.tables.count → at result a ≡ settle_pay (T.meaning self.now.terms) (view self.now.tables) price a }
         ensures small { SmallPays result }
     {
         let class = self.settling();
@@ -108,9 +108,9 @@ impl<T: Terms> Book<T> {
     }
 
     fn settle_all(&mut self, price: i32, list: &mut [Payment]) -> Result<(), Fault>
-        ensures answer { result ≡ reply (settle_refusal (meaning self.old.terms) (view self.old.tables) price (length list.old)) tt }
-        ensures after { self.new.tables ≡ after_tables (meaning self.old.terms) self.old.tables (Settle price (length list.old)) }
-        ensures list { list.new ≡ list_after_settle (meaning self.old.terms) (view self.old.tables) price list.old }
+        ensures answer { result ≡ reply (settle_refusal (T.meaning self.old.terms) (view self.old.tables) price (length list.old)) tt }
+        ensures after { self.new.tables ≡ after_tables (T.meaning self.old.terms) self.old.tables (Settle price (length list.old)) }
+        ensures list { list.new ≡ list_after_settle (T.meaning self.old.terms) (view self.old.tables) price list.old }
         ensures terms { self.new.terms ≡ self.old.terms }
     {
         if let Some(fault) = self.settle_refused(price, list.len()) {
@@ -126,11 +126,11 @@ impl<T: Terms> Book<T> {
     // The final price of the settling class: its lots are paid out and its months are finally settled. The list gets a
     // line for each account.
     pub fn settle(&mut self, price: i32, list: &mut [Payment]) -> Result<(), Fault>
-        ensures answer { result ≡ reply (settle_refusal (meaning self.old.terms) (view self.old.tables) price (length list.old)) tt }
-        ensures after { self.new.tables ≡ after_tables (meaning self.old.terms) self.old.tables (Settle price (length list.old)) }
-        ensures list { list.new ≡ list_after_settle (meaning self.old.terms) (view self.old.tables) price list.old }
+        ensures answer { result ≡ reply (settle_refusal (T.meaning self.old.terms) (view self.old.tables) price (length list.old)) tt }
+        ensures after { self.new.tables ≡ after_tables (T.meaning self.old.terms) self.old.tables (Settle price (length list.old)) }
+        ensures list { list.new ≡ list_after_settle (T.meaning self.old.terms) (view self.old.tables) price list.old }
         ensures terms { self.new.terms ≡ self.old.terms }
-        ensures life { LivesOn (meaning self.old.terms) self.old.tables (Settle price (length list.old)) self.new.tables }
+        ensures life { LivesOn (T.meaning self.old.terms) self.old.tables (Settle price (length list.old)) self.new.tables }
     {
         self.settle_all(price, list)
     }

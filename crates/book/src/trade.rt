@@ -52,7 +52,7 @@ impl<T: Terms> Book<T> {
         price: i32,
     ) -> Option<Fault>
         ensures ready { result ≡ None → Ready self.now.tables buyer seller class lots price }
-        ensures is { result ≡ trade_refusal (meaning self.now.terms) (view self.now.tables) buyer seller class lots price }
+        ensures is { result ≡ trade_refusal (T.meaning self.now.terms) (view self.now.tables) buyer seller class lots price }
     {
         if !self.known(buyer) {
             return Some(Fault::UnknownAccount);
@@ -179,8 +179,8 @@ impl<T: Terms> Book<T> {
         lots: i32,
         price: i32,
     ) -> Result<(), Fault>
-        ensures answer { result ≡ reply (trade_refusal (meaning self.old.terms) (view self.old.tables) buyer seller class lots price) tt }
-        ensures after { self.new.tables ≡ after_tables (meaning self.old.terms) self.old.tables (Trade buyer seller class lots price) }
+        ensures answer { result ≡ reply (trade_refusal (T.meaning self.old.terms) (view self.old.tables) buyer seller class lots price) tt }
+        ensures after { self.new.tables ≡ after_tables (T.meaning self.old.terms) self.old.tables (Trade buyer seller class lots price) }
         ensures terms { self.new.terms ≡ self.old.terms }
     {
         if let Some(fault) = self.trade_refused(buyer, seller, class, lots, price) {
@@ -199,10 +199,10 @@ impl<T: Terms> Book<T> {
         lots: i32,
         price: i32,
     ) -> Result<(), Fault>
-        ensures answer { result ≡ reply (trade_refusal (meaning self.old.terms) (view self.old.tables) buyer seller class lots price) tt }
-        ensures after { self.new.tables ≡ after_tables (meaning self.old.terms) self.old.tables (Trade buyer seller class lots price) }
+        ensures answer { result ≡ reply (trade_refusal (T.meaning self.old.terms) (view self.old.tables) buyer seller class lots price) tt }
+        ensures after { self.new.tables ≡ after_tables (T.meaning self.old.terms) self.old.tables (Trade buyer seller class lots price) }
         ensures terms { self.new.terms ≡ self.old.terms }
-        ensures life { LivesOn (meaning self.old.terms) self.old.tables (Trade buyer seller class lots price) self.new.tables }
+        ensures life { LivesOn (T.meaning self.old.terms) self.old.tables (Trade buyer seller class lots price) self.new.tables }
     {
         self.book_trade(buyer, seller, class, lots, price)
     }

@@ -22,7 +22,7 @@ pub struct OpenDays<'a, C> {
 }
 
 impl<C: Calendar> DaySet for OpenDays<'_, C> {
-    ghost has = { λ o. C.Calendar.opens o.calendar.now };
+    ghost has = { λ o. C.opens o.calendar.now };
 
     fn contains(&self, day: u32) -> bool {
         self.calendar.is_open(day)

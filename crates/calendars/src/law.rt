@@ -8,14 +8,14 @@ use crate::walks::count_between;
 
 fn count_from_tenth<S: DaySet>(days: &S, first: u32, end: u32) -> u32
     requires { first < 36525 }
-    ensures { result ≡ between (has days.now) (first + 9) end }
+    ensures { result ≡ between (S.has days.now) (first + 9) end }
 {
     count_between(days, first + 9, end)
 }
 
 // How many days of the set come after a month's ninth, within the month.
 pub fn count_after_ninth<S: DaySet>(days: &S, month: u32) -> Option<u32>
-    ensures { result ≡ after_ninth (has days.now) month }
+    ensures { result ≡ after_ninth (S.has days.now) month }
 {
     let first = dates::first_day(month)?;
     let length = dates::month_length(month)?;
@@ -24,7 +24,7 @@ pub fn count_after_ninth<S: DaySet>(days: &S, month: u32) -> Option<u32>
 
 // Whether every month has at least four days of the set after its ninth.
 pub fn keeps_law<S: DaySet>(days: &S) -> bool
-    ensures { Decides result (Four (has days.now)) }
+    ensures { Decides result (Four (S.has days.now)) }
 {
     for month in 0..1200 {
         match count_after_ninth(days, month) {

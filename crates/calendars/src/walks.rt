@@ -7,14 +7,14 @@ ghost use Rattle.calendars.specs.Walks.{first_from, First, NoneIn, Next, next_af
 use crate::day_set::DaySet;
 
 fn one_if_in<S: DaySet>(days: &S, day: u32) -> u32
-    ensures { result ≡ (if has days.now day then 1 else 0) }
+    ensures { result ≡ (if S.has days.now day then 1 else 0) }
 {
     if days.contains(day) { 1 } else { 0 }
 }
 
 // How many days of the set there are from a day on, before another.
 pub fn count_between<S: DaySet>(days: &S, from: u32, to: u32) -> u32
-    ensures is { result ≡ between (has days.now) from to }
+    ensures is { result ≡ between (S.has days.now) from to }
     ensures bound { result ≤ to - from }
 {
     if to <= from {
@@ -28,15 +28,15 @@ pub fn count_between<S: DaySet>(days: &S, from: u32, to: u32) -> u32
 }
 
 fn itself_if_in<S: DaySet>(days: &S, day: u32) -> Option<u32>
-    ensures { result ≡ when (has days.now day) day }
+    ensures { result ≡ when (S.has days.now day) day }
 {
     if days.contains(day) { Some(day) } else { None }
 }
 
 // The first day of the set from a day on, before another.
 pub fn first_between<S: DaySet>(days: &S, from: u32, to: u32) -> Option<u32>
-    ensures is { result ≡ first_from (has days.now) from (to - from) }
-    ensures least { MatchOption result (NoneIn (has days.now) from to) (First (has days.now) from to) }
+    ensures is { result ≡ first_from (S.has days.now) from (to - from) }
+    ensures least { MatchOption result (NoneIn (S.has days.now) from to) (First (S.has days.now) from to) }
 {
     if to <= from {
         return None;
@@ -51,8 +51,8 @@ pub fn first_between<S: DaySet>(days: &S, from: u32, to: u32) -> Option<u32>
 
 // The next day of the set after a day: the least, up to 31 December 2099.
 pub fn next_after<S: DaySet>(days: &S, day: u32) -> Option<u32>
-    ensures is { result ≡ next_after (has days.now) day }
-    ensures least { MatchOption result (NoneIn (has days.now) (day + 1) 36525) (λ e. Next (has days.now) day e × (e < 36525)) }
+    ensures is { result ≡ next_after (S.has days.now) day }
+    ensures least { MatchOption result (NoneIn (S.has days.now) (day + 1) 36525) (λ e. Next (S.has days.now) day e × (e < 36525)) }
 {
     if day >= 36_525 {
         return None;
@@ -62,7 +62,7 @@ pub fn next_after<S: DaySet>(days: &S, day: u32) -> Option<u32>
 
 // The first day of the set in a month.
 pub fn first_in_month<S: DaySet>(days: &S, month: u32) -> Option<u32>
-    ensures { result ≡ first_in_month (has days.now) month }
+    ensures { result ≡ first_in_month (S.has days.now) month }
 {
     let first = dates::first_day(month)?;
     let length = dates::month_length(month)?;
@@ -71,7 +71,7 @@ pub fn first_in_month<S: DaySet>(days: &S, month: u32) -> Option<u32>
 
 fn count_after<S: DaySet>(days: &S, day: u32, end: u32) -> u32
     requires { day < 36525 }
-    ensures is { result ≡ between (has days.now) (day + 1) end }
+    ensures is { result ≡ between (S.has days.now) (day + 1) end }
     ensures bound { result ≤ end - (day + 1) }
 {
     count_between(days, day + 1, end)
@@ -79,7 +79,7 @@ fn count_after<S: DaySet>(days: &S, day: u32, end: u32) -> u32
 
 // How many days of the set come after a day within its month.
 pub fn count_left<S: DaySet>(days: &S, day: u32) -> Option<u32>
-    ensures is { result ≡ left_in_month (has days.now) day }
+    ensures is { result ≡ left_in_month (S.has days.now) day }
     ensures bound { MatchOption result (36525 ≤ day) (λ n. n ≤ 30) }
 {
     let month = dates::month_of(day)?;
@@ -96,7 +96,7 @@ struct WithLeft<'a, S> {
 }
 
 impl<S: DaySet> DaySet for WithLeft<'_, S> {
-    ghost has = { λ w. leaves (S.DaySet.has w.days.now) w.left };
+    ghost has = { λ w. leaves (S.has w.days.now) w.left };
 
     fn contains(&self, day: u32) -> bool {
         if !self.days.contains(day) {
@@ -111,7 +111,7 @@ impl<S: DaySet> DaySet for WithLeft<'_, S> {
 
 // The day of the set in a month after which just so many more come: 0 tells the last, 3 the fourth last.
 pub fn with_left<S: DaySet>(days: &S, month: u32, left: u32) -> Option<u32>
-    ensures { result ≡ with_left (has days.now) month left }
+    ensures { result ≡ with_left (S.has days.now) month left }
 {
     first_in_month(&WithLeft { days, left }, month)
 }

@@ -79,7 +79,7 @@ fn successor_of(class: Option<ClassTerms>) -> Option<u32>
 
 // The successor of each class.
 fn successors<T: Terms>(terms: &T, day: u32) -> [Option<u32>; 12]
-    ensures { result ≡ successors_on (meaning terms.now) day }
+    ensures { result ≡ successors_on (T.meaning terms.now) day }
 {
     let mut all = [None; 12];
     for c in 0..12 {
@@ -104,8 +104,8 @@ fn source_of<T: Terms>(
     day: u32,
     class: u32,
 ) -> Option<u32>
-    requires { successors.now ≡ successors_on (meaning terms.now) day }
-    ensures { result ≡ source_below (λ e. successor ((meaning terms.now).on day e)) class (meaning terms.now).classes }
+    requires { successors.now ≡ successors_on (T.meaning terms.now) day }
+    ensures { result ≡ source_below (λ e. successor ((T.meaning terms.now).on day e)) class (T.meaning terms.now).classes }
 {
     let mut source = None;
     for e in 0..terms.classes() {
@@ -118,8 +118,8 @@ fn source_of<T: Terms>(
 
 // Whether a class other than the settling class succeeds to it.
 fn is_taken_over<T: Terms>(terms: &T, successors: &[Option<u32>; 12], day: u32) -> bool
-    requires { successors.now ≡ successors_on (meaning terms.now) day }
-    ensures { result ≡ is_taken_over (meaning terms.now) day }
+    requires { successors.now ≡ successors_on (T.meaning terms.now) day }
+    ensures { result ≡ is_taken_over (T.meaning terms.now) day }
 {
     let settling = terms.settling();
     for c in 0..terms.classes() {
@@ -138,8 +138,8 @@ fn class_closing<T: Terms>(
     next: u32,
     class: u32,
 ) -> ClassClosing
-    requires { (next ≡ next_day (meaning terms.now) day) × (successors.now ≡ successors_on (meaning terms.now) day) }
-    ensures { result ≡ class_closing (meaning terms.now) day class }
+    requires { (next ≡ next_day (T.meaning terms.now) day) × (successors.now ≡ successors_on (T.meaning terms.now) day) }
+    ensures { result ≡ class_closing (T.meaning terms.now) day class }
 {
     let here = terms.class_on(day, class);
     ClassClosing {
@@ -170,8 +170,8 @@ fn class_closings<T: Terms>(
     day: u32,
     next: u32,
 ) -> [ClassClosing; 12]
-    requires { (next ≡ next_day (meaning terms.now) day) × (successors.now ≡ successors_on (meaning terms.now) day) }
-    ensures { result ≡ map (class_closing (meaning terms.now) day) (range_with_len 0 12) }
+    requires { (next ≡ next_day (T.meaning terms.now) day) × (successors.now ≡ successors_on (T.meaning terms.now) day) }
+    ensures { result ≡ map (class_closing (T.meaning terms.now) day) (range_with_len 0 12) }
 {
     let mut all = [NO_CLASS; 12];
     for c in 0..12 {
@@ -183,7 +183,7 @@ fn class_closings<T: Terms>(
 impl Closing {
     // What the terms say of a day.
     pub fn of<T: Terms>(terms: &T, day: u32) -> Closing
-        ensures { result ≡ closing_of (meaning terms.now) day }
+        ensures { result ≡ closing_of (T.meaning terms.now) day }
     {
         let next = calendars::next_after(&TermsOpenDays { terms }, day);
         let successors = successors(terms, day);

@@ -13,7 +13,7 @@ pub fn figures_stand() -> u8
 
 // The law of the ledger holds of every book of Baseload, of Peakload and of wheat over the calendar.
 pub fn all_products_stand<C: Calendar>(calendar: &C) -> u8
-    ensures { AllProducts (opens calendar.now) }
+    ensures { AllProducts (C.opens calendar.now) }
 {
     let _ = calendar;
     0

@@ -17,9 +17,9 @@ pub struct Power<C, P> {
 }
 
 impl<C: Calendar, P: Profile> Terms for Power<C, P> {
-    ghost meaning = { λ p. power (C.Calendar.opens p.calendar) (P.Profile.hours p.profile) (P.Profile.second p.profile) };
+    ghost meaning = { λ p. power (C.opens p.calendar) (P.hours p.profile) (P.second p.profile) };
 
-    ghost lawful = { λ p. power-laws _ _ _ (C.Calendar.lawful p.calendar) (P.Profile.bounded p.profile) };
+    ghost lawful = { λ p. power-laws _ _ _ (C.lawful p.calendar) (P.bounded p.profile) };
 
     fn classes(&self) -> u32 {
         CLASSES

@@ -65,9 +65,9 @@ pub struct SingleMonth<C> {
 }
 
 impl<C: Calendar> Terms for SingleMonth<C> {
-    ghost meaning = { λ s. single (C.Calendar.opens s.calendar) };
+    ghost meaning = { λ s. single (C.opens s.calendar) };
 
-    ghost lawful = { λ s. single-laws _ (C.Calendar.lawful s.calendar) };
+    ghost lawful = { λ s. single-laws _ (C.lawful s.calendar) };
 
     fn classes(&self) -> u32 {
         CLASSES

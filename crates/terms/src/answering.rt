@@ -11,7 +11,7 @@ const END: u32 = 35_430;
 
 // Whether terms over a calendar, with so many classes, answer for a class on a day: on the open days from 2001 to 2096.
 pub fn answers_for<C: Calendar>(calendar: &C, classes: u32, day: u32, class: u32) -> bool
-    ensures { result ≡ answers_for (opens calendar.now) classes day class }
+    ensures { result ≡ answers_for (C.opens calendar.now) classes day class }
 {
     day >= FIRST_DAY && day < END && calendar.is_open(day) && class < classes
 }

@@ -8,7 +8,7 @@ ghost use Rattle.terms.specs.Quantities.{PartsAndSuccessors};
 use crate::terms::Terms;
 
 fn month_or_none<T: Terms>(terms: &T, month: u32) -> u32
-    ensures { result ≡ unwrap_or (when (nat_lt month 1200) ((meaning terms.now).quantity month)) 0 }
+    ensures { result ≡ unwrap_or (when (nat_lt month 1200) ((T.meaning terms.now).quantity month)) 0 }
 {
     terms.month_quantity(month).unwrap_or(0)
 }
@@ -16,9 +16,9 @@ fn month_or_none<T: Terms>(terms: &T, month: u32) -> u32
 // The quantity of one lot in a class on a day; 0 where terms do not answer. For all terms, a class with parts has as
 // much as its parts together, and a successor as much as the class that it succeeds.
 pub fn quantity_of<T: Terms>(terms: &T, day: u32, class: u32) -> u32
-    ensures is { result ≡ class_quantity (meaning terms.now) ((meaning terms.now).on day class) }
+    ensures is { result ≡ class_quantity (T.meaning terms.now) ((T.meaning terms.now).on day class) }
     ensures bound { result ≤ 8940 }
-    ensures law { PartsAndSuccessors (meaning terms.now) }
+    ensures law { PartsAndSuccessors (T.meaning terms.now) }
 {
     let Some(class) = terms.class_on(day, class) else {
         return 0;

@@ -42,7 +42,7 @@ pub struct TermsOpenDays<'a, T> {
 }
 
 impl<T: Terms> DaySet for TermsOpenDays<'_, T> {
-    ghost has = { λ o. (T.Terms.meaning o.terms.now).opens };
+    ghost has = { λ o. (T.meaning o.terms.now).opens };
 
     fn contains(&self, day: u32) -> bool {
         self.terms.is_open(day)

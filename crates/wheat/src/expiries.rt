@@ -47,9 +47,9 @@ fn tenth_day(expiry: u32) -> Option<u32>
 // The last trading day of an expiry: the tenth of its month, or the next open day. Over every calendar T01 has the first
 // expiry whose last trading day is not past.
 pub fn last_trading_day<C: Calendar>(calendar: &C, expiry: u32) -> Option<u32>
-    ensures is { result ≡ last_trading_day (opens calendar.now) expiry }
+    ensures is { result ≡ last_trading_day (C.opens calendar.now) expiry }
     ensures bound { MatchOption result (400 ≤ expiry) (λ d. d < 36525) }
-    ensures law { FrontIsFirstNotPast (opens calendar.now) }
+    ensures law { FrontIsFirstNotPast (C.opens calendar.now) }
 {
     let tenth = tenth_day(expiry)?;
     calendars::first_between(&OpenDays { calendar }, tenth, DAYS)
@@ -57,7 +57,7 @@ pub fn last_trading_day<C: Calendar>(calendar: &C, expiry: u32) -> Option<u32>
 
 // The same as a number, beyond all days where there is none.
 pub(crate) fn last_day<C: Calendar>(calendar: &C, expiry: u32) -> u32
-    ensures is { result ≡ last_day (opens calendar.now) expiry }
+    ensures is { result ≡ last_day (C.opens calendar.now) expiry }
     ensures bound { result ≤ 36525 }
 {
     last_trading_day(calendar, expiry).unwrap_or(DAYS)
@@ -66,7 +66,7 @@ pub(crate) fn last_day<C: Calendar>(calendar: &C, expiry: u32) -> u32
 // An expiry, or the next where its last trading day is past.
 fn not_past<C: Calendar>(calendar: &C, expiry: u32, day: u32) -> u32
     requires { expiry < 400 }
-    ensures { result ≡ not_past (opens calendar.now) expiry day }
+    ensures { result ≡ not_past (C.opens calendar.now) expiry day }
 {
     if last_day(calendar, expiry) < day {
         expiry + 1
@@ -77,7 +77,7 @@ fn not_past<C: Calendar>(calendar: &C, expiry: u32, day: u32) -> u32
 
 // The expiry of T01: the first from the day's month on that is not past.
 pub(crate) fn front_expiry<C: Calendar>(calendar: &C, day: u32) -> Option<u32>
-    ensures { result ≡ when (nat_lt day 36525) (front_expiry (opens calendar.now) day) }
+    ensures { result ≡ when (nat_lt day 36525) (front_expiry (C.opens calendar.now) day) }
 {
     let month = dates::month_of(day)?;
     Some(not_past(calendar, expiries_before(month), day))

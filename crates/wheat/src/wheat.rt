@@ -17,7 +17,7 @@ const NEAR: u32 = 6;
 // The class whose margin interval a class takes, where `last` is T01's last trading day.
 fn interval_class<C: Calendar>(calendar: &C, day: u32, last: u32, class: u32) -> u32
     requires { (day < 36525) × (last ≤ 36525) }
-    ensures { result ≡ class_of_interval (opens calendar.now) day last class }
+    ensures { result ≡ class_of_interval (C.opens calendar.now) day last class }
 {
     if class == T01 && calendars::count_between(&OpenDays { calendar }, day + 1, last + 1) <= NEAR {
         DEL
@@ -29,7 +29,7 @@ fn interval_class<C: Calendar>(calendar: &C, day: u32, last: u32, class: u32) ->
 // A class on a day on which T01 has the expiry `front`.
 fn class_with<C: Calendar>(calendar: &C, day: u32, front: u32, class: u32) -> ClassTerms
     requires { (day < 36525) × ((0 < front) × ((front < 396) × (class < 6))) }
-    ensures { result ≡ class_with (opens calendar.now) day front class }
+    ensures { result ≡ class_with (C.opens calendar.now) day front class }
 {
     let last = last_day(calendar, front);
     ClassTerms {
@@ -55,9 +55,9 @@ pub struct Wheat<C> {
 }
 
 impl<C: Calendar> Terms for Wheat<C> {
-    ghost meaning = { λ w. wheat (C.Calendar.opens w.calendar) };
+    ghost meaning = { λ w. wheat (C.opens w.calendar) };
 
-    ghost lawful = { λ w. wheat-laws _ (C.Calendar.lawful w.calendar) };
+    ghost lawful = { λ w. wheat-laws _ (C.lawful w.calendar) };
 
     fn classes(&self) -> u32 {
         CLASSES

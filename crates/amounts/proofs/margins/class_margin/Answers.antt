@@ -11,7 +11,7 @@ pub loop-step-preserved : goal.loop-step-preserved
 loop-step-preserved c =
     let i = c.loop-step.step-index in
     let f : ℤ → ℤ = step_result (to_z w32 (of_z w32 c.args.price)) c.args.interval c.args.quantity (to_z w32 (of_z w32 c.args.lots)) in
-    let here : to_z w128 (of_z w128 c.step_result.result) ≡ f (get_or steps i (pos 0)) = to_z-of_z w128 c.step_result.result (record { sfits = c.step_result.type-inv }) ∙ c.step_result.ensures.is ∙ ap f (factor-at c.all-steps.result i c.all-steps.ensures (omega arith)) in
+    let here : to_z w128 (of_z w128 c.step_result.result) ≡ f (get_or steps i (pos 0)) = to_z-of_z w128 c.step_result.result (record { sfits = c.step_result.type_inv }) ∙ c.step_result.ensures.is ∙ ap f (factor-at c.all-steps.result i c.all-steps.ensures (omega arith)) in
     to_z-of_z w128 c.min-least.result (record { sfits = c.min-least.type_inv })
     ∙ least_more f _ steps i _ _ c.min-least.result (omega arith) c.loop-step.invariant here c.min-least.ensures.value
 

@@ -13,11 +13,11 @@ second c =
     let size = product_le c.args.price (pos c.args.interval) (2 ^ 31) (2 ^ 16) (omega (arith, ints)) (omega (arith, ints)) in
     exact w64 _ c.from-3.result (c.args.price *ℤ pos c.args.interval) c.args.factor (2 ^ 47) (2 ^ 7) (first (goal.at.After-from-3 c).After-from-2).is (omega (arith, ints)) size (omega (arith, ints)) (lit< tt)
 
-pub overflow-mul-result : goal.overflow-mul-result
-overflow-mul-result c = (first c).ranges
+pub overflow_mul-result : goal.overflow_mul-result
+overflow_mul-result c = (first c).fits
 
-pub overflow-mul-result-2 : goal.overflow-mul-result-2
-overflow-mul-result-2 c = (second c).ranges
+pub overflow_mul-result-2 : goal.overflow_mul-result-2
+overflow_mul-result-2 c = (second c).fits
 
 pub returns : goal.returns
 returns c = (second c).is

@@ -9,8 +9,8 @@ use Rattle.amounts.proofs.payments.for_quantity.Goals as goal
 product : (c : goal.After-from) → Exact w128 c.from.result c.args.gain (pos c.args.quantity *ℤ c.args.gain)
 product c = exact w128 c.from.result c.args.gain (pos c.args.quantity) c.args.gain (2 ^ 32) (2 ^ 65) (omega (arith, ints)) (omega (arith, ints)) (omega (arith, ints)) (omega (arith, ints)) (lit< tt)
 
-pub overflow-mul-result : goal.overflow-mul-result
-overflow-mul-result c = (product c).ranges
+pub overflow_mul-result : goal.overflow_mul-result
+overflow_mul-result c = (product c).fits
 
 pub returns : goal.returns
 returns c = record {

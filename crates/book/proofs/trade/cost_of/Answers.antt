@@ -8,7 +8,7 @@ product : (c : goal.After-from-2) → Exact w64 c.from.result c.from-2.result (c
 product c = exact w64 c.from.result c.from-2.result c.args.lots c.args.price 1000 100000 (omega (arith, ints)) (omega (arith, ints)) c.requires.0 c.requires.1 (lit< tt)
 
 pub overflow-mul-result : goal.overflow-mul-result
-overflow-mul-result c = (product c).ranges
+overflow-mul-result c = (product c).fits
 
 pub returns : goal.returns
 returns c =

@@ -6,4 +6,4 @@ use Rattle.calendars.proofs.listed.is_listed.Goals as goal
 pub returns : goal.returns
 returns c =
     let xs = c.args.closed.now in
-    c.is-some.ensures ∙ ap is_some (c.find.ensures.rising (subst Rising (sym (map-id xs)) c.requires)) ∙ ap (λ (l : List ℕ). is_some (place l c.args.day)) (map-id xs)
+    c.is_some.ensures ∙ ap is_some (c.find.ensures.rising (subst Rising (sym (map-id xs)) c.requires)) ∙ ap (λ (l : List ℕ). is_some (place l c.args.day)) (map-id xs)

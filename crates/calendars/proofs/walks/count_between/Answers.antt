@@ -7,11 +7,11 @@ returns-then-to-from g c =
     let f = g.S.DaySet.has c.args.days.now in
     record { is = omega (arith, before-rises f c.args.to c.args.from c.if-to-from.true); bound = omega arith }
 
-pub overflow-add-count : goal.overflow-add-count
-overflow-add-count g c = omega (arith, c.one-if-in-count.ensures, one-most (g.S.DaySet.has c.args.days.now c.loop-day.day))
+pub overflow_add-count : goal.overflow_add-count
+overflow_add-count g c = omega (arith, c.one_if_in-count.ensures, one-most (g.S.DaySet.has c.args.days.now c.loop-day.day))
 
 pub loop-day-preserved : goal.loop-day-preserved
 loop-day-preserved g c =
     let f = g.S.DaySet.has c.args.days.now in
     let up = before-rises f c.args.from c.loop-day.day (omega arith) in
-    omega (arith, c.one-if-in-count.ensures, before-next f c.loop-day.day, one-most (f c.loop-day.day))
+    omega (arith, c.one_if_in-count.ensures, before-next f c.loop-day.day, one-most (f c.loop-day.day))

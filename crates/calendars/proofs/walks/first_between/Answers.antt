@@ -14,7 +14,7 @@ pub returns-in-Some : goal.returns-in-Some
 returns-in-Some g c =
     let f = g.S.DaySet.has c.args.days.now in
     let d = c.in-Some.found in
-    let t = told (f c.loop-day.day) d c.loop-day.day (sym c.in-Some.is ∙ c.itself-if-in.ensures) in
+    let t = told (f c.loop-day.day) d c.loop-day.day (sym c.in-Some.is ∙ c.itself_if_in.ensures) in
     let n : First f c.args.from c.args.to d = subst (First f c.args.from c.args.to) (sym t.1) (record {
       from = omega arith;
       to = omega arith;
@@ -26,7 +26,7 @@ returns-in-Some g c =
 pub loop-day-preserved : goal.loop-day-preserved
 loop-day-preserved g c =
     let f = g.S.DaySet.has c.args.days.now in
-    none_more f c.args.from c.loop-day.day c.loop-day.invariant (not-told (f c.loop-day.day) c.loop-day.day (sym c.itself-if-in.ensures ∙ c.in-default.is))
+    none_more f c.args.from c.loop-day.day c.loop-day.invariant (not-told (f c.loop-day.day) c.loop-day.day (sym c.itself_if_in.ensures ∙ c.in_default.is))
 
 pub returns : goal.returns
 returns g c =

@@ -4,9 +4,9 @@ use Rattle.text.proofs.ReadDigits.{digit-yes, digit-no, wrong-length, right-leng
 use Rattle.text.proofs.numbers.digits.Goals as goal
 use Rattle.text.proofs.numbers.digits.Goals.{then-b-lt48-via-then-b-lt48, then-b-lt48-via-else-b-lt48+then-b-gt57}
 
-pub returns-then-is-empty : goal.returns-then-is-empty
-returns-then-is-empty c = record {
-  value = wrong-length c.args.s.now (⊎_elim (λ e. inl (eqb-true _ _ (sym c.is-empty.ensures ∙ e))) (λ p. inr p.1) c.then-is-empty.either);
+pub returns-then-is_empty : goal.returns-then-is_empty
+returns-then-is_empty c = record {
+  value = wrong-length c.args.s.now (⊎_elim (λ e. inl (eqb-true _ _ (sym c.is_empty.ensures ∙ e))) (λ p. inr p.1) c.then-is_empty.either);
   bound = tt;
 }
 
@@ -23,11 +23,11 @@ returns-then-b-lt48 c =
       bound = tt;
     }
 
-pub overflow-mul-n : goal.overflow-mul-n
-overflow-mul-n c = let b = eight-digits c.loop-b.b-index (omega arith) in record { fits = omega arith }
+pub overflow_mul-n : goal.overflow_mul-n
+overflow_mul-n c = let b = eight-digits c.loop-b.b-index (omega arith) in record { fits = omega arith }
 
-pub overflow-add-n : goal.overflow-add-n
-overflow-add-n c = let b = eight-digits c.loop-b.b-index (omega arith) in record { fits = omega arith }
+pub overflow_add-n : goal.overflow_add-n
+overflow_add-n c = let b = eight-digits c.loop-b.b-index (omega arith) in record { fits = omega arith }
 
 pub loop-b-preserved : goal.loop-b-preserved
 loop-b-preserved c = (
