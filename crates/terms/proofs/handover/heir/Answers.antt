@@ -8,30 +8,30 @@ by_parts : (w : Meaning) (d c m : ℕ) (b : Bool) (o : Option ℕ) → has_some_
 by_parts w d c m b o p q =
     ap (λ (b : Bool). successor_of w d (cond b o (Some c))) (sym p) ∙ ap (λ (o : Option ℕ). successor_of w d (cond (has_some_part (w.on d c)) o (Some c))) (sym q)
 
-pub returns-then-not-has-parts : goal.returns-then-not-has-parts
-returns-then-not-has-parts g c =
+pub returns-then-not-has_parts : goal.returns-then-not-has_parts
+returns-then-not-has_parts g c =
     let w = g.T.Terms.meaning c.args.terms.now in
-    let p : has_some_part (w.on c.args.day c.args.class) ≡ false = sym c.has-parts.ensures ∙ c.if-not-has-parts.true in
+    let p : has_some_part (w.on c.args.day c.args.class) ≡ false = sym c.has_parts.ensures ∙ c.if-not-has_parts.true in
     record {
-      is = c.successor-of.ensures ∙ by_parts w c.args.day c.args.class c.args.month false _ p refl;
+      is = c.successor_of.ensures ∙ by_parts w c.args.day c.args.class c.args.month false _ p refl;
       law = months-follow w (g.met.T.Terms.lawful c.args.terms.now);
     }
 
 pub returns-in-Some : goal.returns-in-Some
 returns-in-Some g c =
     let w = g.T.Terms.meaning c.args.terms.now in
-    let p : has_some_part (w.on c.args.day c.args.class) ≡ true = sym c.has-parts.ensures ∙ c.if-not-has-parts.false in
-    let q : part_with w c.args.day c.args.class c.args.month ≡ Some c.in-Some.part = sym c.part-with.ensures ∙ c.in-Some.is in
+    let p : has_some_part (w.on c.args.day c.args.class) ≡ true = sym c.has_parts.ensures ∙ c.if-not-has_parts.false in
+    let q : part_with w c.args.day c.args.class c.args.month ≡ Some c.in-Some.part = sym c.part_with.ensures ∙ c.in-Some.is in
     record {
-      is = c.successor-of-in-Some.ensures ∙ by_parts w c.args.day c.args.class c.args.month true _ p q;
+      is = c.successor_of-in-Some.ensures ∙ by_parts w c.args.day c.args.class c.args.month true _ p q;
       law = months-follow w (g.met.T.Terms.lawful c.args.terms.now);
     }
 
 pub returns-in-None : goal.returns-in-None
 returns-in-None g c =
     let w = g.T.Terms.meaning c.args.terms.now in
-    let p : has_some_part (w.on c.args.day c.args.class) ≡ true = sym c.has-parts.ensures ∙ c.if-not-has-parts.false in
-    let q : part_with w c.args.day c.args.class c.args.month ≡ None = sym c.part-with.ensures ∙ c.in-None.is in
+    let p : has_some_part (w.on c.args.day c.args.class) ≡ true = sym c.has_parts.ensures ∙ c.if-not-has_parts.false in
+    let q : part_with w c.args.day c.args.class c.args.month ≡ None = sym c.part_with.ensures ∙ c.in-None.is in
     record {
       is = by_parts w c.args.day c.args.class c.args.month true None p q;
       law = months-follow w (g.met.T.Terms.lawful c.args.terms.now);

@@ -4,14 +4,14 @@ use Rattle.calendars.proofs.Firsts.{none_is, first-is}
 use Rattle.terms.specs.Meaning.{has, is_part}
 use Rattle.terms.proofs.handover.part_with.Goals as goal
 
-pub returns-then-has-month : goal.returns-then-has-month
-returns-then-has-month g c =
+pub returns-then-has_month : goal.returns-then-has_month
+returns-then-has_month g c =
     let w = g.T.Terms.meaning c.args.terms.now in
     let f : ℕ → Bool = λ p. is_part (w.on c.args.day c.args.class) p && has (w.on c.args.day p) c.args.month in
     first-is f 0 12 c.loop-part.part (record {
       from = omega arith;
       to = omega arith;
-      inside = and_from _ _ (sym c.is-part.ensures ∙ c.if-is-part.true) (sym c.has-month.ensures ∙ c.if-has-month.true);
+      inside = and_from _ _ (sym c.is_part.ensures ∙ c.if-is_part.true) (sym c.has_month.ensures ∙ c.if-has_month.true);
       none = c.loop-part.invariant;
     })
 

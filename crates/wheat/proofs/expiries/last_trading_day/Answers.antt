@@ -4,14 +4,14 @@ use Rattle.wheat.specs.LastDays.{last-answer, no_answer, last-is, last-below}
 use Rattle.wheat.specs.WheatLaws.{front-law}
 use Rattle.wheat.proofs.expiries.last_trading_day.Goals as goal
 
-pub returns-in-err-tenth : goal.returns-in-err-tenth
-returns-in-err-tenth g c =
+pub returns-in_err-tenth : goal.returns-in_err-tenth
+returns-in_err-tenth g c =
     let f = g.C.Calendar.opens c.args.calendar.now in
     let k = c.args.expiry in
-    let h = c.in-err-tenth.ensures.range in
+    let h = c.in_err-tenth.ensures.range in
     record {
-      is = c.from-residual.ensures ∙ no_answer f k h;
-      bound = subst (λ (o : Option ℕ). MatchOption o (400 ≤ k) (λ d. d < 36525)) (sym c.from-residual.ensures) h;
+      is = c.from_residual.ensures ∙ no_answer f k h;
+      bound = subst (λ (o : Option ℕ). MatchOption o (400 ≤ k) (λ d. d < 36525)) (sym c.from_residual.ensures) h;
       law = front-law f (g.met.C.Calendar.lawful c.args.calendar.now);
     }
 
@@ -20,8 +20,8 @@ returns g c =
     let f = g.C.Calendar.opens c.args.calendar.now in
     let law = g.met.C.Calendar.lawful c.args.calendar.now in
     let k = c.args.expiry in
-    let h = c.in-ok-tenth.ensures.range in
-    let is : c.first-between.result ≡ last_trading_day f k = c.first-between.ensures.is ∙ last-answer f k c.in-ok-tenth.tenth h c.in-ok-tenth.ensures.is in
+    let h = c.in_ok-tenth.ensures.range in
+    let is : c.first_between.result ≡ last_trading_day f k = c.first_between.ensures.is ∙ last-answer f k c.in_ok-tenth.tenth h c.in_ok-tenth.ensures.is in
     record {
       is = is;
       bound = subst (λ (o : Option ℕ). MatchOption o (400 ≤ k) (λ d. d < 36525)) (sym (is ∙ (last-is f law.four k h).0)) (last-below f law.four k h);

@@ -33,19 +33,19 @@ invariant-of-self g c =
     let b = c.args.self.now in
     sound-unless b.tables c.pay.new.self _ _ c.pay.ensures.after (b.counted, (b.widths, (b.trades, (b.costs, (b.lined, tt)))))
 
-pub returns-in-err-pay : goal.returns-in-err-pay
-returns-in-err-pay g c =
+pub returns-in_err-pay : goal.returns-in_err-pay
+returns-in_err-pay g c =
     let b = c.args.self.now in
     let t = b.tables in
     let list = c.args.list.now in
     let w = g.T.Terms.meaning b.terms in
     let law = g.met.T.Terms.lawful b.terms in
     let k = c.of-closing.ensures in
-    let e = c.in-err-pay.field-0.0 in
+    let e = c.in_err-pay.field-0.0 in
     let pays = c.close-pays-pays.result in
-    let q = asked w law t c.of-closing.result c.settling-settling.result (length list) None _ k c.settling-settling.ensures.is c.close-refused.ensures c.in-default.is in
+    let q = asked w law t c.of-closing.result c.settling-settling.result (length list) None _ k c.settling-settling.ensures.is c.close-refused.ensures c.in_default.is in
     let each = λ (a : ℕ) (h : a < t.count). c.close-pays-pays.ensures.each a h ∙ ap (λ (k : Closing). close_paid k t a) k in
-    let r = replied-err (pay_refusal t (at pays)) e (sym c.pay.ensures.answer ∙ c.in-err-pay.was) in
+    let r = replied-err (pay_refusal t (at pays)) e (sym c.pay.ensures.answer ∙ c.in_err-pay.was) in
     let y = err_from_is_err_and c.from-residual.result c.from-residual.ensures.1 in
     record {
       answer = y.1 ∙ ap Err y.2 ∙ sym (ap (λ o. reply o tt) (close_late w law t list pays q each ∙ r));
@@ -63,9 +63,9 @@ carry-requires g c =
     let law = g.met.T.Terms.lawful b.terms in
     let k = c.of-closing.ensures in
     let pays = c.close-pays-pays.result in
-    let q = asked w law t c.of-closing.result c.settling-settling.result (length list) None _ k c.settling-settling.ensures.is c.close-refused.ensures c.in-default.is in
+    let q = asked w law t c.of-closing.result c.settling-settling.result (length list) None _ k c.settling-settling.ensures.is c.close-refused.ensures c.in_default.is in
     let each = λ (a : ℕ) (h : a < t.count). c.close-pays-pays.ensures.each a h ∙ ap (λ (k : Closing). close_paid k t a) k in
-    let r = replied-ok (pay_refusal t (at pays)) _ (sym c.pay.ensures.answer ∙ c.in-ok-pay.was) in
+    let r = replied-ok (pay_refusal t (at pays)) _ (sym c.pay.ensures.answer ∙ c.in_ok-pay.was) in
     let few : t.count ≤ length t.accounts = omega (arith, b.counted.1, b.widths.0) in
     let s : Sound c.pay.new.self = sound-unless t c.pay.new.self _ _ c.pay.ensures.after (b.counted, (b.widths, (b.trades, (b.costs, (b.lined, tt))))) in
     (s.0.1, λ a i h. subst (λ (k : Closing). nat_abs (at (moved_lots k (account_of c.pay.new.self a).lots) i) ≤ 1000) (sym k) (paid-small w law t list pays q each few c.pay.new.self r c.pay.ensures.after a i h))
@@ -85,9 +85,9 @@ returns g c =
     let law = g.met.T.Terms.lawful b.terms in
     let k = c.of-closing.ensures in
     let pays = c.close-pays-pays.result in
-    let q = asked w law t c.of-closing.result c.settling-settling.result (length list) None _ k c.settling-settling.ensures.is c.close-refused.ensures c.in-default.is in
+    let q = asked w law t c.of-closing.result c.settling-settling.result (length list) None _ k c.settling-settling.ensures.is c.close-refused.ensures c.in_default.is in
     let each = λ (a : ℕ) (h : a < t.count). c.close-pays-pays.ensures.each a h ∙ ap (λ (k : Closing). close_paid k t a) k in
-    let r = replied-ok (pay_refusal t (at pays)) _ (sym c.pay.ensures.answer ∙ c.in-ok-pay.was) in
+    let r = replied-ok (pay_refusal t (at pays)) _ (sym c.pay.ensures.answer ∙ c.in_ok-pay.was) in
     let few : t.count ≤ length t.accounts = omega (arith, b.counted.1, b.widths.0) in
     record {
       answer = sym (ap (λ o. reply o tt) (close_late w law t list pays q each ∙ r));

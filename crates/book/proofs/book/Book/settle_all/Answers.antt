@@ -30,17 +30,17 @@ invariant-of-self g c =
     let b = c.args.self.now in
     sound-unless b.tables c.pay.new.self _ _ c.pay.ensures.after (b.counted, (b.widths, (b.trades, (b.costs, (b.lined, tt)))))
 
-pub returns-in-err-pay : goal.returns-in-err-pay
-returns-in-err-pay g c =
+pub returns-in_err-pay : goal.returns-in_err-pay
+returns-in_err-pay g c =
     let b = c.args.self.now in
     let t = b.tables in
     let w = g.T.Terms.meaning b.terms in
     let p = to_z-of_z w32 c.args.price c.ranges.price in
-    let e = c.in-err-pay.field-0.0 in
+    let e = c.in_err-pay.field-0.0 in
     let pays = c.settle-pays-pays.result in
-    let q = sym (ap (λ z. may_settle w (view t) z (length c.args.list.now)) p) ∙ sym c.settle-refused.ensures ∙ c.in-default.is in
+    let q = sym (ap (λ z. may_settle w (view t) z (length c.args.list.now)) p) ∙ sym c.settle-refused.ensures ∙ c.in_default.is in
     let each : (a : ℕ) → a < t.count → at pays a ≡ settle_pay w (view t) c.args.price a = λ a h. c.settle-pays-pays.ensures.each a h ∙ ap (λ z. settle_pay w (view t) z a) p in
-    let r = replied-err (pay_refusal t (at pays)) e (sym c.pay.ensures.answer ∙ c.in-err-pay.was) in
+    let r = replied-err (pay_refusal t (at pays)) e (sym c.pay.ensures.answer ∙ c.in_err-pay.was) in
     let y = err_from_is_err_and c.from-residual.result c.from-residual.ensures.1 in
     record {
       answer = y.1 ∙ ap Err y.2 ∙ sym (ap (λ o. reply o tt) (settle-late w t c.args.price c.args.list.now pays q each ∙ r));
@@ -68,9 +68,9 @@ returns g c =
     let w = g.T.Terms.meaning b.terms in
     let p = to_z-of_z w32 c.args.price c.ranges.price in
     let pays = c.settle-pays-pays.result in
-    let q = sym (ap (λ z. may_settle w (view t) z (length c.args.list.now)) p) ∙ sym c.settle-refused.ensures ∙ c.in-default.is in
+    let q = sym (ap (λ z. may_settle w (view t) z (length c.args.list.now)) p) ∙ sym c.settle-refused.ensures ∙ c.in_default.is in
     let each : (a : ℕ) → a < t.count → at pays a ≡ settle_pay w (view t) c.args.price a = λ a h. c.settle-pays-pays.ensures.each a h ∙ ap (λ z. settle_pay w (view t) z a) p in
-    let r = replied-ok (pay_refusal t (at pays)) _ (sym c.pay.ensures.answer ∙ c.in-ok-pay.was) in
+    let r = replied-ok (pay_refusal t (at pays)) _ (sym c.pay.ensures.answer ∙ c.in_ok-pay.was) in
     record {
       answer = sym (ap (λ o. reply o tt) (settle-late w t c.args.price c.args.list.now pays q each ∙ r));
       after = settle-done w t c.args.price c.args.list.now pays q each c.pay.new.self c.empty.new.self r c.pay.ensures.after (c.empty.ensures ∙ ap (emptied_tables c.pay.new.self) c.settling-class.ensures.is);

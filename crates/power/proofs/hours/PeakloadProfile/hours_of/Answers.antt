@@ -3,4 +3,4 @@ use Rattle.power.proofs.hours.PeakloadProfile.hours_of.Goals as goal
 
 pub returns : goal.returns
 returns c =
-    peakload-answer c.args.month c.in-ok-first.first c.in-ok-length.length _ c.in-ok-first.ensures.is c.in-ok-length.ensures.is c.peak-hours.ensures
+    peakload-answer c.args.month c.in_ok-first.first c.in_ok-length.length _ c.in_ok-first.ensures.is c.in_ok-length.ensures.is c.peak_hours.ensures
