@@ -3,12 +3,12 @@ use Rattle.terms.proofs.Handovers.{any_at, any-more}
 use Rattle.terms.specs.Meaning.{any_below}
 use Rattle.closing.proofs.Loops.{takes-over, takes-over-yes, takes-over-self, takes-over-no}
 use Rattle.closing.proofs.closing.is_taken_over.Goals as goal
-use Rattle.closing.proofs.closing.is_taken_over.Goals.{else-c-settling-via-then-c-settling+else-is-named, else-c-settling-via-else-c-settling}
+use Rattle.closing.proofs.closing.is_taken_over.Goals.{else-c-settling-via-then-c-settling+else-is_named, else-c-settling-via-else-c-settling}
 
-pub returns-then-is-named : goal.returns-then-is-named
-returns-then-is-named g c =
+pub returns-then-is_named : goal.returns-then-is_named
+returns-then-is_named g c =
     let w = g.T.Terms.meaning c.args.terms.now in
-    let yes = takes-over-yes w (g.met.T.Terms.lawful c.args.terms.now) c.args.day c.loop-c.c c.args.successors.now c.requires (omega (arith, c.classes-c-end.ensures)) c.settling-settling.result c.settling-settling.ensures c.is-named.result c.is-named.ensures c.if-c-settling.true c.if-is-named.true in
+    let yes = takes-over-yes w (g.met.T.Terms.lawful c.args.terms.now) c.args.day c.loop-c.c c.args.successors.now c.requires (omega (arith, c.classes-c-end.ensures)) c.settling-settling.result c.settling-settling.ensures c.is_named.result c.is_named.ensures c.if-c-settling.true c.if-is_named.true in
     sym (any_at w.classes (takes-over w c.args.day) c.loop-c.c (omega (arith, c.classes-c-end.ensures)) yes)
 
 pub loop-c-preserved : goal.loop-c-preserved
@@ -16,7 +16,7 @@ loop-c-preserved g c =
     let w = g.T.Terms.meaning c.args.terms.now in
     any-more c.loop-c.c _ c.loop-c.invariant
     (elim c.else-c-settling.branch [
-      | else-c-settling-via-then-c-settling+else-is-named v ↦ takes-over-no w (g.met.T.Terms.lawful c.args.terms.now) c.args.day c.loop-c.c c.args.successors.now c.requires (omega (arith, c.classes-c-end.ensures)) c.settling-settling.result c.settling-settling.ensures v.is-named.result v.is-named.ensures v.if-is-named.false
+      | else-c-settling-via-then-c-settling+else-is_named v ↦ takes-over-no w (g.met.T.Terms.lawful c.args.terms.now) c.args.day c.loop-c.c c.args.successors.now c.requires (omega (arith, c.classes-c-end.ensures)) c.settling-settling.result c.settling-settling.ensures v.is_named.result v.is_named.ensures v.if-is_named.false
       | else-c-settling-via-else-c-settling v ↦ takes-over-self w (g.met.T.Terms.lawful c.args.terms.now) c.args.day c.loop-c.c c.args.successors.now c.requires (omega (arith, c.classes-c-end.ensures)) c.settling-settling.result c.settling-settling.ensures v.if-c-settling.false
     ])
 

@@ -4,17 +4,17 @@ use Rattle.terms.specs.Laws.{names}
 use Rattle.terms.specs.Meaning.{successor}
 use Rattle.closing.proofs.Loops.{read-successor, source-found, source-passed}
 use Rattle.closing.proofs.closing.source_of.Goals as goal
-use Rattle.closing.proofs.closing.source_of.Goals.{then-is-named, else-is-named}
+use Rattle.closing.proofs.closing.source_of.Goals.{then-is_named, else-is_named}
 
 pub loop-e-preserved : goal.loop-e-preserved
 loop-e-preserved g c =
     let w = g.T.Terms.meaning c.args.terms.now in
     let next : ℕ → Option ℕ = λ e. successor (w.on c.args.day e) in
     let read = read-successor w (g.met.T.Terms.lawful c.args.terms.now) c.args.day c.loop-e.e c.args.successors.now c.requires (omega (arith, c.classes-e-end.ensures)) in
-    let named : names (next c.loop-e.e) c.args.class ≡ c.is-named.result = ap (λ (o : Option ℕ). names o c.args.class) (sym read) ∙ sym c.is-named.ensures in
-    elim c.if-is-named.branch [
-      | then-is-named w ↦ w.source-is ∙ source-found next c.args.class c.loop-e.e (named ∙ w.if-is-named.true)
-      | else-is-named w ↦ w.source-is ∙ c.loop-e.invariant ∙ source-passed next c.args.class c.loop-e.e (named ∙ w.if-is-named.false)
+    let named : names (next c.loop-e.e) c.args.class ≡ c.is_named.result = ap (λ (o : Option ℕ). names o c.args.class) (sym read) ∙ sym c.is_named.ensures in
+    elim c.if-is_named.branch [
+      | then-is_named w ↦ w.source-is ∙ source-found next c.args.class c.loop-e.e (named ∙ w.if-is_named.true)
+      | else-is_named w ↦ w.source-is ∙ c.loop-e.invariant ∙ source-passed next c.args.class c.loop-e.e (named ∙ w.if-is_named.false)
     ]
 
 pub returns : goal.returns

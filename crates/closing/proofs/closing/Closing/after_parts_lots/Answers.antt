@@ -5,7 +5,7 @@ use Rattle.closing.proofs.closing.Closing.after_parts_lots.Goals as goal
 
 pub loop-class-preserved : goal.loop-class-preserved
 loop-class-preserved c =
-    let r = c.after-parts in
+    let r = c.after_parts in
     fill-turn _ _ c.loop-class.class c.loop-class.all _ c.loop-class-test.true (to_z-of_z w64 _ (record { sfits = r.type_inv }) ∙ r.ensures) c.loop-class.invariant
 
 pub returns : goal.returns

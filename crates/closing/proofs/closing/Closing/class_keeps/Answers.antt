@@ -7,7 +7,7 @@ use Rattle.closing.proofs.closing.Closing.class_keeps.Goals as goal
 
 pub returns : goal.returns
 returns c =
-    let r = c.after-parts in
+    let r = c.after_parts in
     let high = pos c.args.limit in
-    c.is-within.ensures ∙ ap (within (neg_ℤ high) high) (to_z-of_z w64 _ (record { sfits = r.type_inv }) ∙ r.ensures)
+    c.is_within.ensures ∙ ap (within (neg_ℤ high) high) (to_z-of_z w64 _ (record { sfits = r.type_inv }) ∙ r.ensures)
     ∙ sym (cond-true (class_at c.args.self.now c.args.class).in_use _ true c.if-not-self-class.false)

@@ -14,4 +14,4 @@ pub returns : goal.returns
 unfolding moved_lots
 returns c =
     fill_end _ _ c.loop-class.class c.loop-class.all (omega arith) c.loop-class.invariant
-    ∙ ap (λ after. map (moved_by c.args.self.now after) (range_with_len 0 12)) c.after-parts-lots-after.ensures
+    ∙ ap (λ after. map (moved_by c.args.self.now after) (range_with_len 0 12)) c.after_parts_lots-after.ensures

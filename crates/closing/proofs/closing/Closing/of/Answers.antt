@@ -3,4 +3,4 @@ use Rattle.closing.proofs.closing.Closing.of.Goals as goal
 
 pub returns : goal.returns
 unfolding closing_of
-returns g c = λ i. record { classes = c.class-closings.ensures i; taken_over = c.is-taken-over.ensures i; next = c.next-after-next.ensures.is i }
+returns g c = λ i. record { classes = c.class_closings.ensures i; taken_over = c.is_taken_over.ensures i; next = c.next_after-next.ensures.is i }

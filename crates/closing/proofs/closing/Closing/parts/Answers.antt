@@ -6,14 +6,14 @@ use Rattle.std.proofs.lemmas.Int.{to_z-of_z}
 use Rattle.closing.proofs.Loops.{sum_fits, sum-turn, sum-end}
 use Rattle.closing.proofs.closing.Closing.parts.Goals as goal
 
-pub overflow-add-sum : goal.overflow-add-sum
-overflow-add-sum c =
-    let r = c.class-parts-sum in
+pub overflow_add-sum : goal.overflow_add-sum
+overflow_add-sum c =
+    let r = c.class_parts-sum in
     sum_fits w128 (λ e. sum_z 12 (part_by c.args.self.now c.args.prices.now c.args.lots.now e)) (2 ^ 96 * 12) c.loop-class.class (lit< tt) c.loop-class-test.true _ r.result _ c.loop-class.invariant (to_z-of_z w128 _ (record { sfits = r.type_inv })) r.ensures.is r.ensures.bound
 
 pub loop-class-preserved : goal.loop-class-preserved
 loop-class-preserved c =
-    let r = c.class-parts-sum in
+    let r = c.class_parts-sum in
     sum-turn w128 (λ e. sum_z 12 (part_by c.args.self.now c.args.prices.now c.args.lots.now e)) (2 ^ 96 * 12) c.loop-class.class (lit< tt) c.loop-class-test.true _ r.result _ c.loop-class.invariant (to_z-of_z w128 _ (record { sfits = r.type_inv })) r.ensures.is r.ensures.bound
 
 pub returns : goal.returns

@@ -2,8 +2,8 @@ use Rattle.closing.specs.Closing.{paid_by}
 use Rattle.closing.proofs.Loops.{both-fit, both_sums, both_small}
 use Rattle.closing.proofs.closing.Closing.pays.Goals as goal
 
-pub overflow-add-result : goal.overflow-add-result
-overflow-add-result c = both-fit c.variations.result c.parts.result c.variations.ensures.bound c.parts.ensures.bound
+pub overflow_add-result : goal.overflow_add-result
+overflow_add-result c = both-fit c.variations.result c.parts.result c.variations.ensures.bound c.parts.ensures.bound
 
 pub returns : goal.returns
 unfolding paid_by

@@ -5,14 +5,14 @@ use Rattle.std.proofs.lemmas.Int.{to_z-of_z}
 use Rattle.closing.proofs.Loops.{sum_fits, sum-turn, sum-end}
 use Rattle.closing.proofs.closing.Closing.variations.Goals as goal
 
-pub overflow-add-sum : goal.overflow-add-sum
-overflow-add-sum c =
-    let r = c.class-variation-sum in
+pub overflow_add-sum : goal.overflow_add-sum
+overflow_add-sum c =
+    let r = c.class_variation-sum in
     sum_fits w128 (variation_by c.args.self.now c.args.prices.now c.args.lots.now c.args.traded.now c.args.cost.now) (2 ^ 98) c.loop-class.class (lit< tt) c.loop-class-test.true _ r.result _ c.loop-class.invariant (to_z-of_z w128 _ (record { sfits = r.type_inv })) r.ensures.is r.ensures.bound
 
 pub loop-class-preserved : goal.loop-class-preserved
 loop-class-preserved c =
-    let r = c.class-variation-sum in
+    let r = c.class_variation-sum in
     sum-turn w128 (variation_by c.args.self.now c.args.prices.now c.args.lots.now c.args.traded.now c.args.cost.now) (2 ^ 98) c.loop-class.class (lit< tt) c.loop-class-test.true _ r.result _ c.loop-class.invariant (to_z-of_z w128 _ (record { sfits = r.type_inv })) r.ensures.is r.ensures.bound
 
 pub returns : goal.returns
