@@ -137,7 +137,7 @@ impl Account {
 
     // Takes lots of a class at a price; they are negative for a sale.
     fn take(&mut self, class: u32, lots: i32, price: i32)
-        requires class_bound { (class < 12) × ((unsigned_abs lots ≤ 1000) × (unsigned_abs price ≤ 100000)) }
+        requires in_range { (class < 12) × ((unsigned_abs lots ≤ 1000) × (unsigned_abs price ≤ 100000)) }
         requires room { Room self.old class lots }
         ensures { self.new ≡ took self.old class lots price }
     {
@@ -151,7 +151,7 @@ impl Account {
 impl Tables {
     // One account takes lots.
     fn take(&mut self, account: u32, class: u32, lots: i32, price: i32)
-        requires account_bound { (account < 32) × ((class < 12) × ((unsigned_abs lots ≤ 1000) × (unsigned_abs price ≤ 100000))) }
+        requires in_range { (account < 32) × ((class < 12) × ((unsigned_abs lots ≤ 1000) × (unsigned_abs price ≤ 100000))) }
         requires room { Room (account_of self.old account) class lots }
         ensures { self.new ≡ with_account self.old account (took (account_of self.old account) class lots price) }
     {

@@ -7,8 +7,8 @@ use Rattle.book.proofs.trade.cost_of.Goals as goal
 product : (c : goal.After-from-2) → Exact w64 c.from.result c.from-2.result (c.args.lots *ℤ c.args.price)
 product c = exact w64 c.from.result c.from-2.result c.args.lots c.args.price 1000 100000 (omega (arith, ints)) (omega (arith, ints)) c.requires.0 c.requires.1 (lit< tt)
 
-pub overflow-mul-result : goal.overflow-mul-result
-overflow-mul-result c = (product c).fits
+pub overflow_mul-result : goal.overflow_mul-result
+overflow_mul-result c = (product c).fits
 
 pub returns : goal.returns
 returns c =

@@ -20,7 +20,7 @@ returns-in-Some g c =
     let list = c.args.list.now in
     let w = g.T.Terms.meaning b.terms in
     let law = g.met.T.Terms.lawful b.terms in
-    let q = close-early w law t list c.in-Some.fault (asked w law t c.of-closing.result c.settling-settling.result (length list) _ _ c.of-closing.ensures c.settling-settling.ensures.is c.close-refused.ensures c.in-Some.is) in
+    let q = close-early w law t list c.in-Some.fault (asked w law t c.of-closing.result c.settling-settling.result (length list) _ _ c.of-closing.ensures c.settling-settling.ensures.is c.close_refused.ensures c.in-Some.is) in
     record {
       answer = sym (ap (λ o. reply o tt) q);
       after = kept _ c.in-Some.fault _ t q;
@@ -28,10 +28,11 @@ returns-in-Some g c =
       terms = search rules;
     }
 
-pub invariant-of-self : goal.invariant-of-self
-invariant-of-self g c =
+pub invariant_of-self : goal.invariant_of-self
+invariant_of-self g c =
     let b = c.args.self.now in
-    sound-unless b.tables c.pay.new.self _ _ c.pay.ensures.after (b.counted, (b.widths, (b.trades, (b.costs, (b.lined, tt)))))
+    let s : Sound c.pay.new.self = sound-unless b.tables c.pay.new.self _ _ c.pay.ensures.after (b.counted, (b.widths, (b.trades, (b.costs, (b.lined, tt))))) in
+    record { counted = s.0; widths = s.1.0; trades = s.1.1.0; costs = s.1.1.1.0; lined = s.1.1.1.1.0 }
 
 pub returns-in_err-pay : goal.returns-in_err-pay
 returns-in_err-pay g c =
@@ -42,11 +43,11 @@ returns-in_err-pay g c =
     let law = g.met.T.Terms.lawful b.terms in
     let k = c.of-closing.ensures in
     let e = c.in_err-pay.field-0.0 in
-    let pays = c.close-pays-pays.result in
-    let q = asked w law t c.of-closing.result c.settling-settling.result (length list) None _ k c.settling-settling.ensures.is c.close-refused.ensures c.in_default.is in
-    let each = λ (a : ℕ) (h : a < t.count). c.close-pays-pays.ensures.each a h ∙ ap (λ (k : Closing). close_paid k t a) k in
+    let pays = c.close_pays-pays.result in
+    let q = asked w law t c.of-closing.result c.settling-settling.result (length list) None _ k c.settling-settling.ensures.is c.close_refused.ensures c.in_default.is in
+    let each = λ (a : ℕ) (h : a < t.count). c.close_pays-pays.ensures.each a h ∙ ap (λ (k : Closing). close_paid k t a) k in
     let r = replied-err (pay_refusal t (at pays)) e (sym c.pay.ensures.answer ∙ c.in_err-pay.was) in
-    let y = err_from_is_err_and c.from-residual.result c.from-residual.ensures.1 in
+    let y = err_from_is_err_and c.from_residual.result c.from_residual.ensures.1 in
     record {
       answer = y.1 ∙ ap Err y.2 ∙ sym (ap (λ o. reply o tt) (close_late w law t list pays q each ∙ r));
       after = close-refused w law t list pays q each c.pay.new.self e r c.pay.ensures.after;
@@ -62,19 +63,20 @@ carry-requires g c =
     let w = g.T.Terms.meaning b.terms in
     let law = g.met.T.Terms.lawful b.terms in
     let k = c.of-closing.ensures in
-    let pays = c.close-pays-pays.result in
-    let q = asked w law t c.of-closing.result c.settling-settling.result (length list) None _ k c.settling-settling.ensures.is c.close-refused.ensures c.in_default.is in
-    let each = λ (a : ℕ) (h : a < t.count). c.close-pays-pays.ensures.each a h ∙ ap (λ (k : Closing). close_paid k t a) k in
+    let pays = c.close_pays-pays.result in
+    let q = asked w law t c.of-closing.result c.settling-settling.result (length list) None _ k c.settling-settling.ensures.is c.close_refused.ensures c.in_default.is in
+    let each = λ (a : ℕ) (h : a < t.count). c.close_pays-pays.ensures.each a h ∙ ap (λ (k : Closing). close_paid k t a) k in
     let r = replied-ok (pay_refusal t (at pays)) _ (sym c.pay.ensures.answer ∙ c.in_ok-pay.was) in
     let few : t.count ≤ length t.accounts = omega (arith, b.counted.1, b.widths.0) in
     let s : Sound c.pay.new.self = sound-unless t c.pay.new.self _ _ c.pay.ensures.after (b.counted, (b.widths, (b.trades, (b.costs, (b.lined, tt))))) in
     (s.0.1, λ a i h. subst (λ (k : Closing). nat_abs (at (moved_lots k (account_of c.pay.new.self a).lots) i) ≤ 1000) (sym k) (paid-small w law t list pays q each few c.pay.new.self r c.pay.ensures.after a i h))
 
-pub invariant-of-self-2 : goal.invariant-of-self-2
-invariant-of-self-2 g c =
+pub invariant_of-self-2 : goal.invariant_of-self-2
+invariant_of-self-2 g c =
     let b = c.args.self.now in
-    let s : Sound c.pay.new.self = sound-unless b.tables c.pay.new.self _ _ c.pay.ensures.after (b.counted, (b.widths, (b.trades, (b.costs, (b.lined, tt))))) in
-    subst Sound (sym c.carry.ensures) (sound-carried c.of-closing.result c.pay.new.self s)
+    let p : Sound c.pay.new.self = sound-unless b.tables c.pay.new.self _ _ c.pay.ensures.after (b.counted, (b.widths, (b.trades, (b.costs, (b.lined, tt))))) in
+    let s : Sound c.carry.new.self = subst Sound (sym c.carry.ensures) (sound-carried c.of-closing.result c.pay.new.self p) in
+    record { counted = s.0; widths = s.1.0; trades = s.1.1.0; costs = s.1.1.1.0; lined = s.1.1.1.1.0 }
 
 pub returns : goal.returns
 returns g c =
@@ -84,9 +86,9 @@ returns g c =
     let w = g.T.Terms.meaning b.terms in
     let law = g.met.T.Terms.lawful b.terms in
     let k = c.of-closing.ensures in
-    let pays = c.close-pays-pays.result in
-    let q = asked w law t c.of-closing.result c.settling-settling.result (length list) None _ k c.settling-settling.ensures.is c.close-refused.ensures c.in_default.is in
-    let each = λ (a : ℕ) (h : a < t.count). c.close-pays-pays.ensures.each a h ∙ ap (λ (k : Closing). close_paid k t a) k in
+    let pays = c.close_pays-pays.result in
+    let q = asked w law t c.of-closing.result c.settling-settling.result (length list) None _ k c.settling-settling.ensures.is c.close_refused.ensures c.in_default.is in
+    let each = λ (a : ℕ) (h : a < t.count). c.close_pays-pays.ensures.each a h ∙ ap (λ (k : Closing). close_paid k t a) k in
     let r = replied-ok (pay_refusal t (at pays)) _ (sym c.pay.ensures.answer ∙ c.in_ok-pay.was) in
     let few : t.count ≤ length t.accounts = omega (arith, b.counted.1, b.widths.0) in
     record {

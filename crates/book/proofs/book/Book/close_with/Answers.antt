@@ -13,7 +13,7 @@ returns g c =
     let none : Payment = record { account = 0; cents = pos 0 } in
     let same = close-room w b.tables c.min.result c.args.room (replicate 32 none) c.min.ensures refl b.counted.1 in
     record {
-      answer = c.fault-of.ensures ∙ ap fault_in c.close.ensures.answer ∙ fault-replied _ ∙ same;
+      answer = c.fault_of.ensures ∙ ap fault_in c.close.ensures.answer ∙ fault-replied _ ∙ same;
       after = c.close.ensures.after ∙ ap (λ o. unless o (closed_tables w b.tables) b.tables) same;
       terms = c.close.ensures.terms;
     }

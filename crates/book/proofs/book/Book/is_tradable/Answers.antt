@@ -5,7 +5,7 @@ use Rattle.book.proofs.book.Book.is_tradable.Goals as goal
 
 pub returns-in-Some : goal.returns-in-Some
 returns-in-Some g c =
-    let on = sym c.class-on.ensures ∙ c.in-Some.is in
+    let on = sym c.class_on.ensures ∙ c.in-Some.is in
     record {
       is = sym (ap tradable on);
       known = λ _. known-class _ (g.met.T.Terms.lawful c.args.self.now.terms) _ _ _ on;

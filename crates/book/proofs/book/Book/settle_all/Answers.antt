@@ -17,7 +17,7 @@ returns-in-Some g c =
     let b = c.args.self.now in
     let w = g.T.Terms.meaning b.terms in
     let p = to_z-of_z w32 c.args.price c.ranges.price in
-    let q = settle-early w b.tables c.args.price c.args.list.now c.in-Some.fault (sym (ap (λ z. may_settle w (view b.tables) z (length c.args.list.now)) p) ∙ sym c.settle-refused.ensures ∙ c.in-Some.is) in
+    let q = settle-early w b.tables c.args.price c.args.list.now c.in-Some.fault (sym (ap (λ z. may_settle w (view b.tables) z (length c.args.list.now)) p) ∙ sym c.settle_refused.ensures ∙ c.in-Some.is) in
     record {
       answer = sym (ap (λ o. reply o tt) q);
       after = kept _ c.in-Some.fault _ b.tables q;
@@ -25,10 +25,11 @@ returns-in-Some g c =
       terms = search rules;
     }
 
-pub invariant-of-self : goal.invariant-of-self
-invariant-of-self g c =
+pub invariant_of-self : goal.invariant_of-self
+invariant_of-self g c =
     let b = c.args.self.now in
-    sound-unless b.tables c.pay.new.self _ _ c.pay.ensures.after (b.counted, (b.widths, (b.trades, (b.costs, (b.lined, tt)))))
+    let s : Sound c.pay.new.self = sound-unless b.tables c.pay.new.self _ _ c.pay.ensures.after (b.counted, (b.widths, (b.trades, (b.costs, (b.lined, tt))))) in
+    record { counted = s.0; widths = s.1.0; trades = s.1.1.0; costs = s.1.1.1.0; lined = s.1.1.1.1.0 }
 
 pub returns-in_err-pay : goal.returns-in_err-pay
 returns-in_err-pay g c =
@@ -37,11 +38,11 @@ returns-in_err-pay g c =
     let w = g.T.Terms.meaning b.terms in
     let p = to_z-of_z w32 c.args.price c.ranges.price in
     let e = c.in_err-pay.field-0.0 in
-    let pays = c.settle-pays-pays.result in
-    let q = sym (ap (λ z. may_settle w (view t) z (length c.args.list.now)) p) ∙ sym c.settle-refused.ensures ∙ c.in_default.is in
-    let each : (a : ℕ) → a < t.count → at pays a ≡ settle_pay w (view t) c.args.price a = λ a h. c.settle-pays-pays.ensures.each a h ∙ ap (λ z. settle_pay w (view t) z a) p in
+    let pays = c.settle_pays-pays.result in
+    let q = sym (ap (λ z. may_settle w (view t) z (length c.args.list.now)) p) ∙ sym c.settle_refused.ensures ∙ c.in_default.is in
+    let each : (a : ℕ) → a < t.count → at pays a ≡ settle_pay w (view t) c.args.price a = λ a h. c.settle_pays-pays.ensures.each a h ∙ ap (λ z. settle_pay w (view t) z a) p in
     let r = replied-err (pay_refusal t (at pays)) e (sym c.pay.ensures.answer ∙ c.in_err-pay.was) in
-    let y = err_from_is_err_and c.from-residual.result c.from-residual.ensures.1 in
+    let y = err_from_is_err_and c.from_residual.result c.from_residual.ensures.1 in
     record {
       answer = y.1 ∙ ap Err y.2 ∙ sym (ap (λ o. reply o tt) (settle-late w t c.args.price c.args.list.now pays q each ∙ r));
       after = settle-refused w t c.args.price c.args.list.now pays q each c.pay.new.self e r c.pay.ensures.after;
@@ -55,11 +56,12 @@ empty-requires g c =
     let s : Sound c.pay.new.self = sound-unless b.tables c.pay.new.self _ _ c.pay.ensures.after (b.counted, (b.widths, (b.trades, (b.costs, (b.lined, tt))))) in
     (c.settling-class.ensures.known, (s.0.1, s.1.0.0))
 
-pub invariant-of-self-2 : goal.invariant-of-self-2
-invariant-of-self-2 g c =
+pub invariant_of-self-2 : goal.invariant_of-self-2
+invariant_of-self-2 g c =
     let b = c.args.self.now in
-    let s : Sound c.pay.new.self = sound-unless b.tables c.pay.new.self _ _ c.pay.ensures.after (b.counted, (b.widths, (b.trades, (b.costs, (b.lined, tt))))) in
-    subst Sound (sym c.empty.ensures) (sound-emptied c.pay.new.self c.settling-class.result s)
+    let p : Sound c.pay.new.self = sound-unless b.tables c.pay.new.self _ _ c.pay.ensures.after (b.counted, (b.widths, (b.trades, (b.costs, (b.lined, tt))))) in
+    let s : Sound c.empty.new.self = subst Sound (sym c.empty.ensures) (sound-emptied c.pay.new.self c.settling-class.result p) in
+    record { counted = s.0; widths = s.1.0; trades = s.1.1.0; costs = s.1.1.1.0; lined = s.1.1.1.1.0 }
 
 pub returns : goal.returns
 returns g c =
@@ -67,9 +69,9 @@ returns g c =
     let t = b.tables in
     let w = g.T.Terms.meaning b.terms in
     let p = to_z-of_z w32 c.args.price c.ranges.price in
-    let pays = c.settle-pays-pays.result in
-    let q = sym (ap (λ z. may_settle w (view t) z (length c.args.list.now)) p) ∙ sym c.settle-refused.ensures ∙ c.in_default.is in
-    let each : (a : ℕ) → a < t.count → at pays a ≡ settle_pay w (view t) c.args.price a = λ a h. c.settle-pays-pays.ensures.each a h ∙ ap (λ z. settle_pay w (view t) z a) p in
+    let pays = c.settle_pays-pays.result in
+    let q = sym (ap (λ z. may_settle w (view t) z (length c.args.list.now)) p) ∙ sym c.settle_refused.ensures ∙ c.in_default.is in
+    let each : (a : ℕ) → a < t.count → at pays a ≡ settle_pay w (view t) c.args.price a = λ a h. c.settle_pays-pays.ensures.each a h ∙ ap (λ z. settle_pay w (view t) z a) p in
     let r = replied-ok (pay_refusal t (at pays)) _ (sym c.pay.ensures.answer ∙ c.in_ok-pay.was) in
     record {
       answer = sym (ap (λ o. reply o tt) (settle-late w t c.args.price c.args.list.now pays q each ∙ r));

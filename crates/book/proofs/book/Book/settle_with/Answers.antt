@@ -17,7 +17,7 @@ returns g c =
     let p = to_z-of_z w32 c.args.price c.ranges.price in
     let same = settle-room w b.tables c.min.result c.args.room (replicate 32 none) c.min.ensures refl b.counted.1 c.args.price in
     record {
-      answer = c.fault-of.ensures ∙ ap fault_in c.settle.ensures.answer ∙ fault-replied _ ∙ ap (λ z. settle_refusal w (view b.tables) z room) p ∙ same;
+      answer = c.fault_of.ensures ∙ ap fault_in c.settle.ensures.answer ∙ fault-replied _ ∙ ap (λ z. settle_refusal w (view b.tables) z room) p ∙ same;
       after = c.settle.ensures.after ∙ ap (λ z. unless (settle_refusal w (view b.tables) z room) (settled_tables w b.tables z) b.tables) p ∙ ap (λ o. unless o (settled_tables w b.tables c.args.price) b.tables) same;
       terms = c.settle.ensures.terms;
     }

@@ -18,8 +18,8 @@ returns g c =
         lots-small = search rules;
         price-small = search rules;
         more = search rules;
-        buyer-room = subst (λ (z : ℤ). nat_abs (at (account_of t c.args.buyer).lots k +ℤ z) ≤ 1000) n (c.may-buy.ensures.size c.if-not-may-buy.false);
-        seller-room = subst (λ (z : ℤ). nat_abs (at (account_of t c.args.seller).lots k +ℤ neg_ℤ z) ≤ 1000) n (c.may-sell.ensures.size c.if-not-may-sell.false);
+        buyer-room = subst (λ (z : ℤ). nat_abs (at (account_of t c.args.buyer).lots k +ℤ z) ≤ 1000) n (c.may_buy.ensures.size c.if-not-may_buy.false);
+        seller-room = subst (λ (z : ℤ). nat_abs (at (account_of t c.args.seller).lots k +ℤ neg_ℤ z) ≤ 1000) n (c.may_sell.ensures.size c.if-not-may_sell.false);
       };
       is = search rules;
     }

@@ -9,7 +9,7 @@ loop-account-init c = pays-none _
 pub loop-account-preserved : goal.loop-account-preserved
 loop-account-preserved c =
     let h : c.loop-account.account < 32 = omega (arith, c.requires) in
-    pays-more (close_paid c.args.closing.now c.args.self.now) c.loop-account.account c.loop-account.pays c.close-pay.result h c.loop-account.invariant c.close-pay.ensures.bound c.close-pay.ensures.is
+    pays-more (close_paid c.args.closing.now c.args.self.now) c.loop-account.account c.loop-account.pays c.close_pay.result h c.loop-account.invariant c.close_pay.ensures.bound c.close_pay.ensures.is
 
 pub returns : goal.returns
 returns c = record { each = λ a h. c.loop-account.invariant.2 a (omega arith); small = c.loop-account.invariant.1 }

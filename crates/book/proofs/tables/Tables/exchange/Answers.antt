@@ -10,14 +10,20 @@ take-requires c =
     let t = c.args.self.now in
     let r = c.requires.0 in
     let n : to_z w32 (of_z w32 c.args.lots) ≡ c.args.lots = to_z-of_z w32 c.args.lots c.ranges.lots in
-    ((r.buyer-known, (r.class-known, (omega (arith, ints, r.lots-small), omega (arith, ints, r.price-small)))), subst (λ (z : ℤ). Room (account_of t c.args.buyer) c.args.class z) (sym n) (room t _ _ _ _ _ r c.requires.1.0 c.requires.1.1 c.args.buyer c.args.lots r.buyer-room))
+    record {
+      in_range = (r.buyer-known, (r.class-known, (omega (arith, ints, r.lots-small), omega (arith, ints, r.price-small))));
+      room = subst (λ (z : ℤ). Room (account_of t c.args.buyer) c.args.class z) (sym n) (room t _ _ _ _ _ r c.requires.1.0 c.requires.1.1 c.args.buyer c.args.lots r.buyer-room);
+    }
 
 pub take-requires-2 : goal.take-requires-2
 take-requires-2 c =
     let t = c.args.self.now in
     let r = c.requires.0 in
     let g : to_z w32 (of_z w32 c.negative-sold.result) ≡ neg_ℤ c.args.lots = omega (arith, ints) in
-    ((r.seller-known, (r.class-known, (omega (arith, ints), omega (arith, ints, r.price-small)))), room-kept t _ t c.args.buyer c.args.seller c.args.class c.args.lots c.args.price _ _ _ c.args.price r.apart c.take.ensures (room t _ _ _ _ _ r c.requires.1.0 c.requires.1.1 c.args.seller (neg_ℤ c.args.lots) r.seller-room) g)
+    record {
+      in_range = (r.seller-known, (r.class-known, (omega (arith, ints), omega (arith, ints, r.price-small))));
+      room = room-kept t _ t c.args.buyer c.args.seller c.args.class c.args.lots c.args.price _ _ _ c.args.price r.apart c.take.ensures (room t _ _ _ _ _ r c.requires.1.0 c.requires.1.1 c.args.seller (neg_ℤ c.args.lots) r.seller-room) g;
+    }
 
 pub returns : goal.returns
 returns c =

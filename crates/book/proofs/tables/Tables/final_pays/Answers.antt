@@ -9,7 +9,7 @@ loop-account-init c = pays-none _
 pub loop-account-preserved : goal.loop-account-preserved
 loop-account-preserved c =
     let account : c.loop-account.account < 32 = omega (arith, c.requires.1) in
-    pays-more _ c.loop-account.account c.loop-account.pays c.final-pay.result account c.loop-account.invariant c.final-pay.ensures.bound c.final-pay.ensures.is
+    pays-more _ c.loop-account.account c.loop-account.pays c.final_pay.result account c.loop-account.invariant c.final_pay.ensures.bound c.final_pay.ensures.is
 
 pub returns : goal.returns
 returns c =
