@@ -68,7 +68,7 @@ fn written(rt: HostRuntime) -> Result<(), Fail> {
     for (day, text) in WRITTEN {
         let date = date_of(day).ok_or("no date")?;
         let weekday = weekday_of(day);
-        assert_eq!(rt; format!(in rt.alloc(); "{weekday} {date}")?, text);
+        assert_eq!(rt; format!(in rt.alloc(); "{weekday} {date}")?.as_str(), text);
     }
     Ok(())
 }
