@@ -1,14 +1,4 @@
 pub mod Known
-pub mod Rows
-pub mod Pays
-pub mod Paid
-pub mod Sounds
-pub mod Settles
-pub mod Closings
-pub mod Replays
-pub mod Wholes
-pub mod Views
-pub mod TablesStanding
+pub mod Trades
 pub mod ClassLines
 pub mod Fresh
-pub mod Trades

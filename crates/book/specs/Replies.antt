@@ -5,8 +5,3 @@ use Rattle.ledger.specs.declared.fault.Fault.{Fault}
 abbrev pub reply : {A : Type 0} → Option Fault → A → Result A Fault
 reply None x = Ok x
 reply (Some f) x = Err f
-
--- the question answered no in a reply
-abbrev pub fault_in : {A : Type 0} → Result A Fault → Option Fault
-fault_in (Ok x) = None
-fault_in (Err f) = Some f

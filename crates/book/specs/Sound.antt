@@ -1,10 +1,8 @@
 -- What every book's tables keep, so that its sums fit. Assumes nothing.
-use Rattle.std.specs.Prelude.{◌≡◌, ℕ, ◌*◌, ◌<◌, ◌≤◌, map, length, ℤ, ◌+ℤ◌, neg_ℤ, unsigned_abs}
-use Rattle.coded.specs.Places.{Rising}
-use Rattle.book.specs.Tables.{account_of}
-use Rattle.ledger.specs.Words.{at}
-use Rattle.book.specs.declared.tables.Account.{Account}
-use Rattle.book.specs.declared.tables.Tables.{Tables}
+use Rattle.std.specs.Prelude.{◌≡◌, ℕ, ◌*◌, ◌<◌, ◌≤◌, length, ℤ, ◌+ℤ◌, neg_ℤ, unsigned_abs}
+use Rattle.ledger.specs.Tables.{account_of, at}
+use Rattle.ledger.specs.declared.tables.Account.{Account}
+use Rattle.ledger.specs.declared.tables.Tables.{Tables}
 
 -- 2 to 32 accounts, at most 100,000 accepted trades
 abbrev pub Counted : Tables → Type 0
@@ -20,14 +18,6 @@ SmallTrades t = (a c : ℕ) → unsigned_abs (at (account_of t a).traded c) ≤ 
 
 abbrev pub SmallCosts : Tables → Type 0
 SmallCosts t = (a c : ℕ) → unsigned_abs (at (account_of t a).cost c) ≤ 100000000 * t.accepted
-
--- the class lines rise by class number, those of no class included
-abbrev pub Lined : Tables → Type 0
-Lined t = Rising (map (λ l. l.class) t.lines)
-
--- all of it, as a book's type carries it
-abbrev pub Sound : Tables → Type 0
-Sound t = Counted t × (Widths t × (SmallTrades t × (SmallCosts t × (Lined t × Unit {0}))))
 
 -- an account has room for one trade more in a class
 pub record Room (x : Account) (c : ℕ) (n : ℤ) : Type 0 where

@@ -1,8 +1,8 @@
 // What a book is.
 ghost use Rattle.std.specs.Prelude.{◌≤◌};
-ghost use Rattle.book.specs.Sound.{Counted, Lined, SmallTrades, SmallCosts, Widths};
+ghost use Rattle.book.specs.Sound.{Counted, SmallTrades, SmallCosts, Widths};
 
-use crate::tables::Tables;
+use ledger::Tables;
 use terms::Terms;
 
 // A book over terms: its tables, which its calls alone change.
@@ -14,5 +14,4 @@ pub struct Book<T: Terms> {
     ghost widths: { Widths tables },
     ghost trades: { SmallTrades tables },
     ghost costs: { SmallCosts tables },
-    ghost lined: { Lined tables },
 }

@@ -1,15 +1,19 @@
 // Make: a new book.
-ghost use Rattle.std.specs.Prelude.{◌≡◌, ◌≤◌, [], IfOk, Some, None, MatchResult};
+ghost use Rattle.std.specs.Prelude.{◌≡◌, ℕ, ◌-◌, ◌≤◌, true, ◌++◌, length, replicate, Some, None, MatchResult};
 ghost use Rattle.ledger.specs.Make.{lines_fit, make_refusal};
 ghost use Rattle.book.specs.Lines.{line_fits};
-ghost use Rattle.book.specs.Tables.{filled_line, filled as filledWith, made_tables};
-ghost use Rattle.book.specs.TablesLaw.{Life};
+ghost use Rattle.ledger.specs.State.{start_day};
+ghost use Rattle.ledger.specs.Tables.{empty_account, no_prices, filled as filledWith, made_tables};
 
 use crate::book::Book;
-use crate::tables::{Account, Tables};
 use coded::ClassLine;
-use ledger::{ClassPrices, Fault};
+use ledger::{Account, ClassPrices, Fault, Tables};
 use terms::{Terms, TermsOpenDays};
+
+const NO_LINE: ClassLine = ClassLine {
+    class: 0,
+    interval: 0,
+};
 
 // Whether a line is that of a class, with an interval in range.
 fn line_fits(line: &ClassLine, class: u32) -> bool
@@ -21,7 +25,8 @@ fn line_fits(line: &ClassLine, class: u32) -> bool
 // Whether there is exactly one line for each class, rising, with intervals in range.
 fn lines_fit(classes: u32, lines: &[ClassLine]) -> bool
     requires { classes ≤ 12 }
-    ensures { result ≡ lines_fit 0 classes lines.now }
+    ensures is { result ≡ lines_fit 0 classes lines.now }
+    ensures few { result ≡ true → length lines.now ≤ 12 }
 {
     if lines.len() > 12 {
         return false;
@@ -36,23 +41,14 @@ fn lines_fit(classes: u32, lines: &[ClassLine]) -> bool
     class == classes
 }
 
-// The line of a class; one without an interval where the terms do not have the class.
-fn line_of(lines: &[ClassLine], class: u32) -> ClassLine
-    ensures { result ≡ filled_line lines.now class }
-{
-    if (class as usize) < lines.len() {
-        lines[class as usize]
-    } else {
-        ClassLine { class, interval: 0 }
-    }
-}
-
+// The class lines, and lines that are none up to twelve.
 fn filled(lines: &[ClassLine]) -> [ClassLine; 12]
-    ensures { result ≡ filledWith lines.now }
+    requires { length lines.now ≤ 12 }
+    ensures is { result ≡ filledWith lines.now }
 {
-    let mut all = [line_of(lines, 0); 12];
-    for class in 0..12u32 {
-        all[class as usize] = line_of(lines, class);
+    let mut all = [NO_LINE; 12];
+    for (i, line) in lines.iter().enumerate() {
+        all[i] = *line;
     }
     all
 }
@@ -64,7 +60,8 @@ fn make_refused<T: Terms>(
     accounts: u32,
     lines: &[ClassLine],
 ) -> Option<Fault>
-    ensures { result ≡ make_refusal (T.meaning terms.now) month accounts lines.now }
+    ensures is { result ≡ make_refusal (T.meaning terms.now) month accounts lines.now }
+    ensures fits { result ≡ None → (2 ≤ accounts) × (accounts ≤ 32) × (length lines.now ≤ 12) }
 {
     if accounts < 2 || accounts > 32 {
         return Some(Fault::AccountCount);
@@ -80,6 +77,7 @@ fn make_refused<T: Terms>(
 
 // A new book's tables.
 fn fresh<T: Terms>(terms: &T, month: u32, accounts: u32, lines: &[ClassLine]) -> Tables
+    requires { length lines.now ≤ 12 }
     ensures { result ≡ made_tables (T.meaning terms.now) month accounts lines.now }
 {
     let empty = Account {
@@ -119,8 +117,7 @@ impl<T: Terms> Book<T> {
         accounts: u32,
         lines: &[ClassLine],
     ) -> Result<Book<T>, NotMade<T>>
-        ensures answer { MatchResult result (λ b. (make_refusal (T.meaning terms) month accounts lines.now ≡ None) × (b.terms ≡ terms) × (b.tables ≡ made_tables (T.meaning terms) month accounts lines.now)) (λ e. (make_refusal (T.meaning terms) month accounts lines.now ≡ Some e.fault) × (e.terms ≡ terms)) }
-        ensures life { IfOk result (λ b. Life (T.meaning terms) month accounts lines.now [] b.tables) }
+        ensures { MatchResult result (λ b. (make_refusal (T.meaning terms) month accounts lines.now ≡ None) × (b.terms ≡ terms) × (b.tables ≡ made_tables (T.meaning terms) month accounts lines.now)) (λ e. (make_refusal (T.meaning terms) month accounts lines.now ≡ Some e.fault) × (e.terms ≡ terms)) }
     {
         if let Some(fault) = make_refused(&terms, month, accounts, lines) {
             return Err(NotMade { fault, terms });

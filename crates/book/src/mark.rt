@@ -2,8 +2,7 @@
 ghost use Rattle.std.specs.Prelude.{◌≡◌, ◌<◌, ◌≤◌, true, not, ◌&&◌, is_some, None, nat_lt, unsigned_abs};
 ghost use Rattle.book.specs.Replies.{reply};
 ghost use Rattle.ledger.specs.Calls.{price_fits, mark_refusal, reprice_refusal};
-ghost use Rattle.book.specs.Tables.{view, after_tables};
-ghost use Rattle.book.specs.TablesLaw.{LivesOn};
+ghost use Rattle.ledger.specs.Tables.{view, after_tables};
 ghost use Rattle.ledger.specs.declared.call.Call.TheVariants.{Mark, Reprice};
 ghost use Rattle.terms.specs.Meaning.{tradable};
 
@@ -45,7 +44,8 @@ impl<T: Terms> Book<T> {
 }
 
 impl<T: Terms> Book<T> {
-    fn set_mark(&mut self, class: u32, price: i32) -> Result<(), Fault>
+    // The day's price of a tradable class; a later mark replaces an earlier one.
+    pub fn mark(&mut self, class: u32, price: i32) -> Result<(), Fault>
         ensures answer { result ≡ reply (mark_refusal (T.meaning self.old.terms) (view self.old.tables) class price) tt }
         ensures after { self.new.tables ≡ after_tables (T.meaning self.old.terms) self.old.tables (Mark class price) }
         ensures terms { self.new.terms ≡ self.old.terms }
@@ -53,18 +53,8 @@ impl<T: Terms> Book<T> {
         if let Some(fault) = self.mark_refused(class, price) {
             return Err(fault);
         }
-        self.tables.prices[class as usize].mark(price);
+        self.tables.prices[class as usize].today = Some(price);
         Ok(())
-    }
-
-    // The day's price of a tradable class; a later mark replaces an earlier one.
-    pub fn mark(&mut self, class: u32, price: i32) -> Result<(), Fault>
-        ensures answer { result ≡ reply (mark_refusal (T.meaning self.old.terms) (view self.old.tables) class price) tt }
-        ensures after { self.new.tables ≡ after_tables (T.meaning self.old.terms) self.old.tables (Mark class price) }
-        ensures terms { self.new.terms ≡ self.old.terms }
-        ensures life { LivesOn (T.meaning self.old.terms) self.old.tables (Mark class price) self.new.tables }
-    {
-        self.set_mark(class, price)
     }
 }
 
@@ -93,7 +83,8 @@ impl<T: Terms> Book<T> {
         None
     }
 
-    fn set_repricing(&mut self, class: u32, price: i32) -> Result<(), Fault>
+    // A new price of a delivery class, for margins only.
+    pub fn reprice(&mut self, class: u32, price: i32) -> Result<(), Fault>
         ensures answer { result ≡ reply (reprice_refusal (T.meaning self.old.terms) (view self.old.tables) class price) tt }
         ensures after { self.new.tables ≡ after_tables (T.meaning self.old.terms) self.old.tables (Reprice class price) }
         ensures terms { self.new.terms ≡ self.old.terms }
@@ -101,17 +92,7 @@ impl<T: Terms> Book<T> {
         if let Some(fault) = self.reprice_refused(class, price) {
             return Err(fault);
         }
-        self.tables.prices[class as usize].reprice(price);
+        self.tables.prices[class as usize].repriced = Some(price);
         Ok(())
-    }
-
-    // A new price of a delivery class, for margins only.
-    pub fn reprice(&mut self, class: u32, price: i32) -> Result<(), Fault>
-        ensures answer { result ≡ reply (reprice_refusal (T.meaning self.old.terms) (view self.old.tables) class price) tt }
-        ensures after { self.new.tables ≡ after_tables (T.meaning self.old.terms) self.old.tables (Reprice class price) }
-        ensures terms { self.new.terms ≡ self.old.terms }
-        ensures life { LivesOn (T.meaning self.old.terms) self.old.tables (Reprice class price) self.new.tables }
-    {
-        self.set_repricing(class, price)
     }
 }

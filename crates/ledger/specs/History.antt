@@ -7,7 +7,7 @@ use Rattle.ledger.specs.State.{start_day, next_day}
 use Rattle.ledger.specs.Words.{put, from}
 use Rattle.ledger.specs.declared.call.Call.{Call}
 use Rattle.ledger.specs.declared.call.Call.TheVariants.{Trade, Mark, Reprice, Settle, Close}
-use Rattle.ledger.specs.declared.entry.Entry.{Entry}
+pub use Rattle.ledger.specs.declared.entry.Entry.{Entry}
 use Rattle.ledger.specs.declared.fault.Fault.{Fault}
 use Rattle.terms.specs.Meaning.{Meaning, has, tradable, successor, class_quantity}
 

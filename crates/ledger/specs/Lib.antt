@@ -2,8 +2,10 @@ pub mod Faults
 pub mod Words
 pub mod State
 pub mod Calls
-pub mod Prices
 pub mod Make
 pub mod Questions
 pub mod History
 pub mod Ledger
+pub mod Tables
+pub mod TablesLaw
+pub mod Prices

@@ -48,7 +48,9 @@ margin_of repriced last i q h = class_margin (margin_price repriced last) i q h 
 
 -- an account's margin in a class
 abbrev pub margin_in : Meaning → List ClassLine → State → ℕ → ℕ → ℤ
-margin_in w lines s a c = margin_of (s.repriced c) (s.last c) (interval_of lines (class_now w s c)) (quantity_now w s c) (s.lots a c)
+margin_in w lines s a c =
+    class_margin (margin_price (s.repriced c) (s.last c)) (interval_of lines (class_now w s c)) (quantity_now w s c) (s.lots a c)
+    +ℤ repricing_of (s.repriced c) (s.last c) (quantity_now w s c) (s.lots a c)
 
 abbrev pub margins : Meaning → List ClassLine → State → ℕ → ℤ
 margins w lines s a = total_margin (sum_z w.classes (margin_in w lines s a))
@@ -69,6 +71,21 @@ cash s a = s.cash a
 
 abbrev pub day : State → ℕ
 day s = s.day
+
+-- ---- payment lines: an account and the cents that the call paid it, in account order
+
+pub record Line : Type 0 where
+  pub account : ℕ
+  pub cents : ℤ
+
+abbrev pub lines : State → (ℕ → ℤ) → List Line
+lines s pays = map (λ a. record { account = a; cents = pays a }) (range_with_len 0 s.accounts)
+
+abbrev pub settle_lines : Meaning → State → ℤ → List Line
+settle_lines w s f = lines s (settle_pay w s f)
+
+abbrev pub close_lines : Meaning → State → List Line
+close_lines w s = lines s (close_pay w s)
 
 -- ---- payment lists
 

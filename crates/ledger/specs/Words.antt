@@ -1,5 +1,5 @@
 -- Small words: the first question answered no, ranges, prices that may be missing. Assumes nothing.
-use Rattle.std.specs.Prelude.{ℕ, zero, suc, Bool, true, false, cond, ◌&&◌, List, ℤ, pos, Some, None, Option, ◌==◌, int_le, slice_index_or}
+use Rattle.std.specs.Prelude.{ℕ, zero, suc, Bool, true, false, cond, ◌&&◌, ℤ, pos, Some, None, Option, ◌==◌, int_le}
 use Rattle.ledger.specs.declared.fault.Fault.{Fault}
 
 -- a question: where it is answered no its fault is the answer, else the questions go on
@@ -22,10 +22,6 @@ or_zero (Some p) = p
 -- a table with another value at one place
 abbrev pub put : {A : Type 0} → (ℕ → A) → ℕ → A → ℕ → A
 put f c v i = cond (i == c) v (f i)
-
--- a row of numbers read at a place, and 0 past its end
-abbrev pub at : List ℤ → ℕ → ℤ
-at xs c = slice_index_or xs c (pos 0)
 
 -- what stands at a place that may be none
 abbrev pub from : {A : Type 0} → Option ℕ → A → (ℕ → A) → A

@@ -6,10 +6,11 @@ mod fault;
 mod law;
 mod payment;
 mod prices;
+mod tables;
 
 pub use call::Call;
 pub use entry::Entry;
 pub use fault::Fault;
-pub use law::ledger_stands;
+pub use law::{ledger_stands, tables_stand};
 pub use payment::Payment;
-pub use prices::ClassPrices;
+pub use tables::{Account, ClassPrices, Tables};

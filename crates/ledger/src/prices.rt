@@ -1,14 +1,8 @@
-// The prices of one class.
+// What the calls make of the prices of one class.
 ghost use Rattle.std.specs.Prelude.{◌≡◌};
 ghost use Rattle.ledger.specs.Prices.{marked_prices, repriced_prices, settled_prices};
 
-// The last price, the day's price and the repricing of a class, each of which may be missing.
-#[derive(Clone, Copy)]
-pub struct ClassPrices {
-    pub last: Option<i32>,
-    pub today: Option<i32>,
-    pub repriced: Option<i32>,
-}
+use crate::tables::ClassPrices;
 
 impl ClassPrices {
     // The day's price; a later one replaces an earlier one.

@@ -1,20 +1,15 @@
 #![tactic(auto)]
 // Follows one real task from start to end and says in plain sentences what took place.
-mod book_story;
 mod calendar_story;
-mod journal;
-mod law_story;
+mod contract_story;
 mod margin_story;
 mod wording;
 
-use crate::journal::{Journal, class_lines};
 use crate::wording::Product;
 use anyhow::anyhow;
-use book::Book;
 use calendars::ListCalendar;
 use power::{Baseload, Power};
 use std::{env, fs};
-use terms::Terms;
 use wheat::Wheat;
 
 // The buyer's closed days: those of the file that the first argument names, or the built-in ones. None where the file is
@@ -41,82 +36,27 @@ fn closed_days(rt: &HostRuntime) -> anyhow::Result<Option<Vec<u32>>> {
     }
 }
 
-// The same list of calls, handed over at once to a book over the same terms.
-fn tell_replay<T: Terms + Drop>(
-    rt: &HostRuntime,
-    journal: &Journal<T>,
-    terms: T,
-    month: u32,
-) -> anyhow::Result<()> {
-    let lines = class_lines();
-    let classes = terms.classes().min(12) as usize;
-    let mut entries = journal.entries.clone()?;
-    if let Ok(book) = Book::replay(terms, month, 2, &lines[..classes], entries.as_mut_slice()) {
-        let differing = law_story::differing(journal.entries.as_slice(), entries.as_slice());
-        let cash = book.cash(0).unwrap_or(0);
-        println!(rt;
-            "Handed over as one list, the same calls get answers of which {differing} differ, and the cash of account 0 is {cash} cents."
-        )?;
-    }
-    Ok(())
-}
-
-// One position's life over terms, and the law of the ledger for it; `again` are the same terms once more.
-fn tell_position<T: Terms + Drop>(
-    rt: &HostRuntime,
-    product: Product,
-    terms: T,
-    again: T,
-    year: u32,
-) -> anyhow::Result<()> {
-    let month = year.saturating_add(bench::START_IN_YEAR);
-    let Some(mut journal) = Journal::open(rt.alloc(), terms, month) else {
-        println!(rt; "No book can be made from that month on.")?;
-        return Ok(());
-    };
-    if let Some(months) = book_story::tell(rt, product, &mut journal)? {
-        law_story::tell(rt, &journal, month, months)?;
-        tell_replay(rt, &journal, again, month)?;
-    }
-    Ok(())
-}
-
-// The calendar of a list that was accepted before.
-fn calendar_of(closed: Vec<u32>) -> anyhow::Result<ListCalendar> {
-    match ListCalendar::new(closed) {
-        Ok(calendar) => Ok(calendar),
-        Err(_) => Err(anyhow!("the list is no calendar")),
-    }
-}
-
-fn baseload(closed: Vec<u32>) -> anyhow::Result<Power<ListCalendar, Baseload>> {
-    Ok(Power {
-        calendar: calendar_of(closed)?,
+// The story of power; the calendar comes back.
+fn tell_power(rt: &HostRuntime, calendar: ListCalendar, year: u32) -> anyhow::Result<ListCalendar> {
+    let power = Power {
+        calendar,
         profile: Baseload,
-    })
-}
-
-fn wheat_over(closed: Vec<u32>) -> anyhow::Result<Wheat<ListCalendar>> {
-    Ok(Wheat {
-        calendar: calendar_of(closed)?,
-    })
-}
-
-fn tell_products(rt: &HostRuntime, closed: Vec<u32>, year: u32) -> anyhow::Result<()> {
-    let power = baseload(closed.clone()?)?;
-    tell_position(rt, Product::Power, power, baseload(closed.clone()?)?, year)?;
-    let wheat = wheat_over(closed.clone()?)?;
-    tell_position(rt, Product::Wheat, wheat, wheat_over(closed)?, year)
+    };
+    contract_story::tell(rt, Product::Power, &power, year)?;
+    margin_story::tell(rt, Product::Power, &power, year)?;
+    let Power { calendar, .. } = power;
+    Ok(calendar)
 }
 
 fn tell(rt: &HostRuntime, closed: Vec<u32>) -> anyhow::Result<()> {
     let count = closed.len();
     let year = calendar_story::year_of(rt, closed.as_slice())?;
-    match ListCalendar::new(closed.clone()?) {
+    match ListCalendar::new(closed) {
         Ok(calendar) => {
             println!(rt; "The list of {count} closed days is accepted.")?;
             calendar_story::tell(rt, &calendar, year)?;
-            tell_products(rt, closed, year)
+            let calendar = tell_power(rt, calendar, year)?;
+            contract_story::tell(rt, Product::Wheat, &Wheat { calendar }, year)
         }
         Err(refused) => {
             let number = refused.fault.number();

@@ -1,11 +1,13 @@
-use Rattle.std.proofs.Common.{arith, length-set}
-use Rattle.book.specs.Tables.{no_line, filled_line}
-use Rattle.std.proofs.lemmas.List.FromFn.{fill_by_all}
-use Rattle.book.proofs.Rows.{filled_more}
+use Rattle.std.proofs.Common.{get_or, set, ap, ◌∙◌, arith, length-set}
+use Rattle.ledger.specs.Tables.{no_line}
+use Rattle.book.proofs.ClassLines.{fill_more, fill-all}
 use Rattle.book.proofs.make.filled.Goals as goal
 
-pub loop-class-preserved : goal.loop-class-preserved
-loop-class-preserved c = (simp length-set c.loop-class.invariant.0, filled_more (filled_line c.args.lines.now) c.loop-class.all c.loop-class.class (no_line 0) _ c.line_of.ensures (omega arith) c.loop-class.invariant.1)
+pub loop-i-preserved : goal.loop-i-preserved
+loop-i-preserved c =
+    let xs = c.args.lines.now in
+    let i = c.loop-i.i in
+    (ap (λ ys. set ys i (get_or xs i no_line)) c.loop-i.invariant.0 ∙ fill_more xs i c.loop-i-test.true c.requires, simp length-set c.loop-i.invariant.1)
 
 pub returns : goal.returns
-returns c = fill_by_all (filled_line c.args.lines.now) c.loop-class.all 12 (no_line 0) c.loop-class.invariant.0 (λ k h. c.loop-class.invariant.1 k (omega arith))
+returns c = record { is = c.loop-i.invariant.0 ∙ fill-all c.args.lines.now c.loop-i.i (omega arith) }

@@ -1,6 +1,6 @@
-use Rattle.std.proofs.Common.{◌≡◌, ℕ, ◌<◌, length, get_or}
-use Rattle.book.specs.Tables.{no_line, filled_line}
+use Rattle.std.proofs.Common.{◌≡◌, ◌-◌, ◌≤◌, ◌++◌, length, take, replicate}
+use Rattle.ledger.specs.Tables.{no_line}
 use Rattle.book.proofs.make.filled.Given as goal
 
-abbrev pub invariant-loop-class : goal.invariant-loop-class
-invariant-loop-class l = (length l.all ≡ 12) × ((k : ℕ) → k < l.class → get_or l.all k (no_line 0) ≡ filled_line l.lines k)
+abbrev pub invariant-loop-i : goal.invariant-loop-i
+invariant-loop-i l = (l.all ≡ take l.i l.lines ++ replicate (12 - l.i) no_line) × (length l.all ≡ 12)

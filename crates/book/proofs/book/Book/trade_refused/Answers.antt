@@ -1,7 +1,6 @@
 use Rattle.std.proofs.Common.{◌≡◌, ◌≤◌, ℤ, ◌+ℤ◌, neg_ℤ, nat_abs, subst, w32, to_z, of_z, rules}
 use Rattle.std.proofs.lemmas.Int.{to_z-of_z}
-use Rattle.book.specs.Tables.{account_of}
-use Rattle.ledger.specs.Words.{at}
+use Rattle.ledger.specs.Tables.{account_of, at}
 use Rattle.book.proofs.book.Book.trade_refused.Goals as goal
 
 pub returns : goal.returns
@@ -18,8 +17,8 @@ returns g c =
         lots-small = search rules;
         price-small = search rules;
         more = search rules;
-        buyer-room = subst (λ (z : ℤ). nat_abs (at (account_of t c.args.buyer).lots k +ℤ z) ≤ 1000) n (c.may_buy.ensures.size c.if-not-may_buy.false);
-        seller-room = subst (λ (z : ℤ). nat_abs (at (account_of t c.args.seller).lots k +ℤ neg_ℤ z) ≤ 1000) n (c.may_sell.ensures.size c.if-not-may_sell.false);
+        buyer-room = subst (λ (z : ℤ). nat_abs (at (account_of t c.args.buyer).lots k +ℤ z) ≤ 1000) n (c.buyer_has_room.ensures.size c.if-not-buyer_has_room.false);
+        seller-room = subst (λ (z : ℤ). nat_abs (at (account_of t c.args.seller).lots k +ℤ neg_ℤ z) ≤ 1000) n (c.seller_has_room.ensures.size c.if-not-seller_has_room.false);
       };
       is = search rules;
     }

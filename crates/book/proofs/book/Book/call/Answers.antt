@@ -1,7 +1,0 @@
-use Rattle.std.proofs.Common.{sym, ap, ◌∙◌, rules}
-use Rattle.std.proofs.lemmas.Int.{to_z-of_z}
-use Rattle.book.proofs.Replays.{fault-replied}
-use Rattle.book.proofs.book.Book.call.Goals as goal
-
-pub returns-in-Trade : goal.returns-in-Trade
-returns-in-Trade g c = record { answer = search rules; after = search rules; terms = search rules }

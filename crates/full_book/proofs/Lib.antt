@@ -1,0 +1,14 @@
+pub mod Known
+pub mod Rows
+pub mod Pays
+pub mod Paid
+pub mod Sounds
+pub mod Settles
+pub mod Closings
+pub mod Replays
+pub mod Wholes
+pub mod Views
+pub mod TablesStanding
+pub mod ClassLines
+pub mod Fresh
+pub mod Trades

@@ -1,0 +1,14 @@
+use Rattle.full_book.proofs.Trades.{sound-kept}
+use Rattle.full_book.specs.Sound.{Sound}
+use Rattle.full_book.proofs.book.Book.book_trade.Goals as goal
+
+pub exchange-requires : goal.exchange-requires
+exchange-requires g c =
+    let b = c.args.self.now in
+    (c.trade_refused.ensures.ready c.in_default.is, (b.trades, b.costs))
+
+pub invariant_of-self : goal.invariant_of-self
+invariant_of-self g c =
+    let b = c.args.self.now in
+    let s : Sound c.exchange.new.self = sound-kept b.tables _ _ _ _ _ (c.trade_refused.ensures.ready c.in_default.is) b.trades b.costs _ c.exchange.ensures b.counted b.widths b.lined in
+    record { counted = s.0; widths = s.1.0; trades = s.1.1.0; costs = s.1.1.1.0; lined = s.1.1.1.1.0 }

@@ -1,0 +1,12 @@
+-- How a call replies: an answer, or the question answered no. Assumes nothing.
+use Rattle.std.specs.Prelude.{ℕ, Some, None, Ok, Err, Option, Result}
+use Rattle.ledger.specs.declared.fault.Fault.{Fault}
+
+abbrev pub reply : {A : Type 0} → Option Fault → A → Result A Fault
+reply None x = Ok x
+reply (Some f) x = Err f
+
+-- the question answered no in a reply
+abbrev pub fault_in : {A : Type 0} → Result A Fault → Option Fault
+fault_in (Ok x) = None
+fault_in (Err f) = Some f

@@ -1,0 +1,48 @@
+-- What every book's tables keep, so that its sums fit. Assumes nothing.
+use Rattle.std.specs.Prelude.{◌≡◌, ℕ, ◌*◌, ◌<◌, ◌≤◌, map, length, ℤ, ◌+ℤ◌, neg_ℤ, unsigned_abs}
+use Rattle.coded.specs.Places.{Rising}
+use Rattle.full_book.specs.Tables.{account_of}
+use Rattle.ledger.specs.Tables.{at}
+use Rattle.full_book.specs.declared.tables.Account.{Account}
+use Rattle.full_book.specs.declared.tables.Tables.{Tables}
+
+-- 2 to 32 accounts, at most 100,000 accepted trades
+abbrev pub Counted : Tables → Type 0
+Counted t = (2 ≤ t.count) × (t.count ≤ 32) × (t.accepted ≤ 100000)
+
+-- 32 accounts and 12 classes
+abbrev pub Widths : Tables → Type 0
+Widths t = (length t.accounts ≡ 32) × (length t.prices ≡ 12) × (length t.lines ≡ 12)
+
+-- each accepted trade adds at most 1,000 lots, at most 100,000 cents each
+abbrev pub SmallTrades : Tables → Type 0
+SmallTrades t = (a c : ℕ) → unsigned_abs (at (account_of t a).traded c) ≤ 1000 * t.accepted
+
+abbrev pub SmallCosts : Tables → Type 0
+SmallCosts t = (a c : ℕ) → unsigned_abs (at (account_of t a).cost c) ≤ 100000000 * t.accepted
+
+-- the class lines rise by class number, those of no class included
+abbrev pub Lined : Tables → Type 0
+Lined t = Rising (map (λ l. l.class) t.lines)
+
+-- all of it, as a book's type carries it
+abbrev pub Sound : Tables → Type 0
+Sound t = Counted t × (Widths t × (SmallTrades t × (SmallCosts t × (Lined t × Unit {0}))))
+
+-- an account has room for one trade more in a class
+pub record Room (x : Account) (c : ℕ) (n : ℤ) : Type 0 where
+  pub lots : unsigned_abs (at x.lots c +ℤ n) ≤ 1000
+  pub traded : unsigned_abs (at x.traded c) ≤ 100000000
+  pub cost : unsigned_abs (at x.cost c) ≤ 10000000000000
+
+-- what the questions of a trade, answered yes, leave for its sums
+pub record Ready (t : Tables) (buyer seller c : ℕ) (n p : ℤ) : Type 0 where
+  pub buyer-known : buyer < 32
+  pub seller-known : seller < 32
+  pub apart : buyer ≡ seller → ⊥
+  pub class-known : c < 12
+  pub lots-small : unsigned_abs n ≤ 1000
+  pub price-small : unsigned_abs p ≤ 100000
+  pub more : t.accepted < 100000
+  pub buyer-room : unsigned_abs (at (account_of t buyer).lots c +ℤ n) ≤ 1000
+  pub seller-room : unsigned_abs (at (account_of t seller).lots c +ℤ neg_ℤ n) ≤ 1000

@@ -1,0 +1,18 @@
+// What a book is.
+ghost use Rattle.std.specs.Prelude.{◌≤◌};
+ghost use Rattle.full_book.specs.Sound.{Counted, Lined, SmallTrades, SmallCosts, Widths};
+
+use crate::tables::Tables;
+use terms::Terms;
+
+// A book over terms: its tables, which its calls alone change.
+#[derive(Drop)]
+pub struct Book<T: Terms> {
+    pub(crate) terms: T,
+    pub(crate) tables: Tables,
+    ghost counted: { Counted tables },
+    ghost widths: { Widths tables },
+    ghost trades: { SmallTrades tables },
+    ghost costs: { SmallCosts tables },
+    ghost lined: { Lined tables },
+}

@@ -1,0 +1,210 @@
+// Trade: lots go from a seller to a buyer.
+ghost use Rattle.std.specs.Prelude.{◌≡◌, ◌<◌, ◌≤◌, true, pos, negsuc, ◌+ℤ◌, ◌-ℤ◌, ◌*ℤ◌, neg_ℤ, None, unsigned_abs};
+ghost use Rattle.full_book.specs.Replies.{reply};
+ghost use Rattle.full_book.specs.Sound.{Room, Ready, SmallTrades, SmallCosts};
+ghost use Rattle.full_book.specs.Tables.{view, account_of, took, with_account, traded_tables, after_tables};
+ghost use Rattle.full_book.specs.TablesLaw.{LivesOn};
+ghost use Rattle.ledger.specs.Calls.{trade_refusal};
+ghost use Rattle.ledger.specs.Words.{within};
+ghost use Rattle.ledger.specs.Tables.{at};
+ghost use Rattle.ledger.specs.declared.call.Call.TheVariants.{Trade};
+
+use crate::book::Book;
+use crate::mark::price_fits;
+use crate::tables::{Account, Tables};
+use ledger::Fault;
+use terms::Terms;
+
+fn within_limit(limit: u16, lots: i64) -> bool
+    ensures is { result ≡ within (neg_ℤ (pos limit)) (pos limit) lots }
+    ensures size { result ≡ true → unsigned_abs lots ≤ limit }
+{
+    let limit = i64::from(limit);
+    lots >= -limit && lots <= limit
+}
+
+fn sum(lots: i32, more: i32) -> i64
+    ensures { result ≡ lots +ℤ more }
+{
+    i64::from(lots) + i64::from(more)
+}
+
+fn difference(lots: i32, less: i32) -> i64
+    ensures { result ≡ lots -ℤ less }
+{
+    i64::from(lots) - i64::from(less)
+}
+
+// Whether lots of one trade lie in the range.
+fn lots_fit(lots: i32) -> bool
+    ensures is { result ≡ within (pos 1) (pos 1000) lots }
+    ensures size { result ≡ true → unsigned_abs lots ≤ 1000 }
+{
+    lots >= 1 && lots <= 1000
+}
+
+impl<T: Terms> Book<T> {
+    fn trade_refused(
+        &self,
+        buyer: u32,
+        seller: u32,
+        class: u32,
+        lots: i32,
+        price: i32,
+    ) -> Option<Fault>
+        ensures ready { result ≡ None → Ready self.now.tables buyer seller class lots price }
+        ensures is { result ≡ trade_refusal (T.meaning self.now.terms) (view self.now.tables) buyer seller class lots price }
+    {
+        if !self.known(buyer) {
+            return Some(Fault::UnknownAccount);
+        }
+        if !self.known(seller) {
+            return Some(Fault::UnknownAccount);
+        }
+        if buyer == seller {
+            return Some(Fault::SameAccount);
+        }
+        if !self.is_tradable(class) {
+            return Some(Fault::NotTradable);
+        }
+        if !lots_fit(lots) {
+            return Some(Fault::LotsOutOfRange);
+        }
+        if !price_fits(price) {
+            return Some(Fault::PriceOutOfRange);
+        }
+        if self.tables.accepted >= 100_000 {
+            return Some(Fault::TooManyTrades);
+        }
+        if !self.tables.accounts[buyer as usize].may_buy(class, lots) {
+            return Some(Fault::HoldingOutOfRange);
+        }
+        if !self.tables.accounts[seller as usize].may_sell(class, lots) {
+            return Some(Fault::HoldingOutOfRange);
+        }
+        None
+    }
+}
+
+// What lots cost at a price.
+fn cost_of(lots: i32, price: i32) -> i64
+    requires { (unsigned_abs lots ≤ 1000) × (unsigned_abs price ≤ 100000) }
+    ensures value { result ≡ lots *ℤ price }
+    ensures bound { unsigned_abs result ≤ 100000000 }
+{
+    i64::from(lots) * i64::from(price)
+}
+
+fn more_lots(lots: i32, more: i32) -> i32
+    requires { unsigned_abs (lots +ℤ more) ≤ 200000000 }
+    ensures { result ≡ lots +ℤ more }
+{
+    lots + more
+}
+
+fn more_cost(cost: i64, more: i64) -> i64
+    requires { unsigned_abs (cost +ℤ more) ≤ 20000000000000 }
+    ensures { result ≡ cost +ℤ more }
+{
+    cost + more
+}
+
+fn negative(lots: i32) -> i32
+    requires { unsigned_abs lots ≤ 1000 }
+    ensures is { result ≡ neg_ℤ lots }
+    ensures size { unsigned_abs result ≤ 1000 }
+{
+    -lots
+}
+
+impl Account {
+    // Whether the buyer of lots of a class stays within the limit.
+    fn may_buy(&self, class: u32, lots: i32) -> bool
+        requires { class < 12 }
+        ensures is { result ≡ within (negsuc 999) (pos 1000) (at self.now.lots class +ℤ lots) }
+        ensures size { result ≡ true → unsigned_abs (at self.now.lots class +ℤ lots) ≤ 1000 }
+    {
+        within_limit(self.limit(), sum(self.lots[class as usize], lots))
+    }
+
+    // Whether their seller does.
+    fn may_sell(&self, class: u32, lots: i32) -> bool
+        requires { class < 12 }
+        ensures is { result ≡ within (negsuc 999) (pos 1000) (at self.now.lots class -ℤ lots) }
+        ensures size { result ≡ true → unsigned_abs (at self.now.lots class +ℤ neg_ℤ lots) ≤ 1000 }
+    {
+        within_limit(self.limit(), difference(self.lots[class as usize], lots))
+    }
+
+    // Takes lots of a class at a price; they are negative for a sale.
+    fn take(&mut self, class: u32, lots: i32, price: i32)
+        requires in_range { (class < 12) × ((unsigned_abs lots ≤ 1000) × (unsigned_abs price ≤ 100000)) }
+        requires room { Room self.old class lots }
+        ensures { self.new ≡ took self.old class lots price }
+    {
+        let cost = cost_of(lots, price);
+        self.lots[class as usize] = more_lots(self.lots[class as usize], lots);
+        self.traded[class as usize] = more_lots(self.traded[class as usize], lots);
+        self.cost[class as usize] = more_cost(self.cost[class as usize], cost);
+    }
+}
+
+impl Tables {
+    // One account takes lots.
+    fn take(&mut self, account: u32, class: u32, lots: i32, price: i32)
+        requires in_range { (account < 32) × ((class < 12) × ((unsigned_abs lots ≤ 1000) × (unsigned_abs price ≤ 100000))) }
+        requires room { Room (account_of self.old account) class lots }
+        ensures { self.new ≡ with_account self.old account (took (account_of self.old account) class lots price) }
+    {
+        self.accounts[account as usize].take(class, lots, price);
+    }
+
+    // A trade whose questions were all answered yes.
+    fn exchange(&mut self, buyer: u32, seller: u32, class: u32, lots: i32, price: i32)
+        requires { (Ready self.old buyer seller class lots price) × ((SmallTrades self.old) × (SmallCosts self.old)) }
+        ensures { self.new ≡ traded_tables self.old buyer seller class lots price }
+    {
+        let sold = negative(lots);
+        self.take(buyer, class, lots, price);
+        self.take(seller, class, sold, price);
+        self.accepted += 1;
+    }
+}
+
+impl<T: Terms> Book<T> {
+    fn book_trade(
+        &mut self,
+        buyer: u32,
+        seller: u32,
+        class: u32,
+        lots: i32,
+        price: i32,
+    ) -> Result<(), Fault>
+        ensures answer { result ≡ reply (trade_refusal (T.meaning self.old.terms) (view self.old.tables) buyer seller class lots price) tt }
+        ensures after { self.new.tables ≡ after_tables (T.meaning self.old.terms) self.old.tables (Trade buyer seller class lots price) }
+        ensures terms { self.new.terms ≡ self.old.terms }
+    {
+        if let Some(fault) = self.trade_refused(buyer, seller, class, lots, price) {
+            return Err(fault);
+        }
+        self.tables.exchange(buyer, seller, class, lots, price);
+        Ok(())
+    }
+
+    // Lots of a class go from the seller to the buyer, at a price.
+    pub fn trade(
+        &mut self,
+        buyer: u32,
+        seller: u32,
+        class: u32,
+        lots: i32,
+        price: i32,
+    ) -> Result<(), Fault>
+        ensures answer { result ≡ reply (trade_refusal (T.meaning self.old.terms) (view self.old.tables) buyer seller class lots price) tt }
+        ensures after { self.new.tables ≡ after_tables (T.meaning self.old.terms) self.old.tables (Trade buyer seller class lots price) }
+        ensures terms { self.new.terms ≡ self.old.terms }
+        ensures life { LivesOn (T.meaning self.old.terms) self.old.tables (Trade buyer seller class lots price) self.new.tables }
+    {
+        self.book_trade(buyer, seller, class, lots, price)
+    }
+}

@@ -1,0 +1,28 @@
+-- The law of the ledger, of the tables. Assumes nothing.
+use Rattle.std.specs.Prelude.{◌≡◌, ℕ, ◌≤◌, List, [], ◌∷◌, None}
+use Rattle.coded.specs.declared.class_line.ClassLine.{ClassLine}
+use Rattle.ledger.specs.Calls.{refusal, after}
+use Rattle.ledger.specs.History.{History}
+use Rattle.ledger.specs.Ledger.{Ledger, Agrees}
+use Rattle.ledger.specs.Make.{make_refusal}
+use Rattle.ledger.specs.Tables.{Whole, view, made_tables, after_tables}
+use Rattle.ledger.specs.declared.call.Call.{Call}
+use Rattle.ledger.specs.declared.tables.Tables.{Tables}
+use Rattle.terms.specs.Laws.{Laws}
+use Rattle.terms.specs.Meaning.{Meaning}
+
+-- Tables are reached from their start by a history: each call was given just the answer that is defined on what the tables
+-- hold, and left just the tables that are defined.
+abbrev pub ReachedTables : Meaning → Tables → History → Tables → Type 0
+ReachedTables w start [] t = t ≡ start
+ReachedTables w start (e ∷ h) t = (u : Tables) × ReachedTables w start h u × (e.answer ≡ refusal w (view u) e.call) × (t ≡ after_tables w u e.call)
+
+-- What a call does to the tables is what it does to the state that they hold.
+abbrev pub TablesFollow : Type 0
+TablesFollow =
+    (w : Meaning) → Laws w → (t : Tables) → Whole t → t.count ≤ 32 → (k : Call) → (view (after_tables w t k) ≡ after w (view t) k) × Whole (after_tables w t k)
+
+-- The law holds of what the tables hold, after any accepted make and any history, under all terms that keep their laws.
+abbrev pub TablesStand : Type 0
+TablesStand =
+    (w : Meaning) → Laws w → (month accounts : ℕ) (lines : List ClassLine) → make_refusal w month accounts lines ≡ None → (h : History) (t : Tables) → ReachedTables w (made_tables w month accounts lines) h t → Ledger w month h (view t) × Agrees w month h (view t) accounts

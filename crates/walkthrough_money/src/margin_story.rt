@@ -1,0 +1,41 @@
+// The initial margin of the position on its first evening, step by step.
+use crate::journal::Journal;
+use crate::wording::Product;
+use amounts::Step;
+use terms::Terms;
+
+// The first class in which account 0 holds lots, and its last price.
+fn held_class<T: Terms>(journal: &Journal<T>) -> Option<(u32, i32, i32)> {
+    let holdings = journal.holdings();
+    for class in 0..12u32 {
+        let lots = holdings[class as usize];
+        if lots != 0 {
+            let price = journal.book.last_price(class)?;
+            return Some((class, lots, price));
+        }
+    }
+    None
+}
+
+pub fn tell<T: Terms>(
+    rt: &HostRuntime,
+    product: Product,
+    journal: &Journal<T>,
+) -> anyhow::Result<()> {
+    let Some((class, lots, price)) = held_class(journal) else {
+        return Ok(());
+    };
+    let name = product.class_text(class);
+    let interval = bench::INTERVAL;
+    let quantity = terms::quantity_of(journal.book.terms(), journal.book.day(), class);
+    println!(rt;
+        "  Its initial margin at the last price of {name}, {price} cents, and an interval of {interval} hundredths of a percent:"
+    )?;
+    for step in Step::all() {
+        let result = amounts::step_result(price, interval, quantity, lots, step);
+        println!(rt; "    step {step:?}: {result} cents")?;
+    }
+    let margin = journal.book.margins(0).unwrap_or(0);
+    println!(rt; "  The least of the ten is the margin of account 0: {margin} cents.")?;
+    Ok(())
+}
