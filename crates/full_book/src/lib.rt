@@ -1,5 +1,5 @@
 #![tactic(auto)]
-// The book: its calls over any terms.
+// The book with all its calls, over any terms: settle, close, margins and the list call beside those of the crate `book`.
 mod book;
 mod close;
 mod history;
