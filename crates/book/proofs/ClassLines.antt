@@ -6,7 +6,7 @@ use Rattle.coded.specs.declared.class_line.ClassLine.{ClassLine}
 use Rattle.ledger.specs.Make.{lines_fit}
 use Rattle.ledger.specs.Tables.{no_line, filled}
 use Rattle.std.proofs.lemmas.List.{at_drop_more, at_drop_all, take_all}
-use Rattle.std.proofs.lemmas.Bool.{and_parts, cases_Bool, eqb-true, false≢true}
+use Rattle.std.proofs.lemmas.Bool.{and_parts, cases_Bool, eqb-true}
 
 -- as many lines as classes
 lines-count : (k n : ℕ) (xs : List ClassLine) → lines_fit k n xs ≡ true → k + length xs ≡ n

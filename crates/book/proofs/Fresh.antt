@@ -1,10 +1,10 @@
 -- A new book's tables are sound. Assumes nothing.
-use Rattle.std.proofs.Common.{◌≡◌, ℕ, ◌*◌, ◌<◌, ◌≤◌, List, length, get_or, replicate, ℤ, pos, nat_abs, sym, refl, ap, ◌∙◌, subst, ⊎_elim, arith}
+use Rattle.std.proofs.Common.{◌≡◌, ℕ, ◌*◌, ◌≤◌, List, length, get_or, replicate, ℤ, pos, nat_abs, sym, refl, subst, ⊎_elim, arith}
 use lib.ListN.{get_or-replicate, length-replicate}
 use Rattle.book.proofs.ClassLines.{filled-width}
 use Rattle.book.specs.Sound.{Counted, Widths, SmallTrades, SmallCosts}
 use Rattle.coded.specs.declared.class_line.ClassLine.{ClassLine}
-use Rattle.ledger.specs.Tables.{account_of, at, empty_account, no_account, made_tables}
+use Rattle.ledger.specs.Tables.{at, empty_account, no_account, made_tables}
 use Rattle.ledger.specs.declared.tables.Account.{Account}
 use Rattle.ledger.specs.declared.tables.Tables.{Tables}
 use Rattle.std.proofs.lemmas.List.{get_or_past}

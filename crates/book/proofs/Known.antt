@@ -1,6 +1,6 @@
 -- What the laws of terms say of a class that is tradable. Assumes nothing.
-use Rattle.std.proofs.Common.{◌≡◌, ℕ, ◌<◌, Bool, true, ◌&&◌, ltb, is_some, Some, None, Option, sym, refl, ap, ◌∙◌, arith}
-use Rattle.std.proofs.lemmas.Bool.{and_parts, false≢true, ltb-true}
+use Rattle.std.proofs.Common.{◌≡◌, ℕ, ◌<◌, ltb, is_some, Some, sym, ap, ◌∙◌, arith}
+use Rattle.std.proofs.lemmas.Bool.{and_parts, ltb-true}
 use Rattle.terms.specs.Laws.{Laws}
 use Rattle.terms.specs.Meaning.{Meaning, answers}
 use Rattle.terms.specs.declared.class_terms.ClassTerms.{ClassTerms}

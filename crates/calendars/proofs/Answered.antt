@@ -1,5 +1,5 @@
 -- The answers on months and days, from those of the dates. Assumes nothing.
-use Rattle.std.proofs.Common.{◌≡◌, ℕ, ◌+◌, ◌<◌, Bool, ltb, Some, sym, ap, ◌∙◌, arith}
+use Rattle.std.proofs.Common.{◌≡◌, ℕ, ◌+◌, Bool, ltb, Some, ap, ◌∙◌}
 use Rattle.std.proofs.lemmas.Bool.{ltb-true}
 use Rattle.dates.specs.Dates.{start, month_of, month_of_day, first_day, month_length}
 use Rattle.dates.proofs.MonthLaws.{given, told, month-told}

@@ -1,5 +1,5 @@
 -- The law of calendars, and the weekday and list calendars. Assumes nothing.
-use Rattle.std.specs.Prelude.{◌≡◌, ℕ, ◌+◌, ◌<◌, ◌≤◌, Bool, true, false, not, ◌&&◌, List, length, is_some, Option, nat_lt, slice_index}
+use Rattle.std.specs.Prelude.{◌≡◌, ℕ, ◌+◌, ◌<◌, ◌≤◌, Bool, false, not, ◌&&◌, List, length, is_some, Option, nat_lt, slice_index}
 use Rattle.coded.specs.Places.{Rising, place}
 use Rattle.dates.specs.Dates.{when, start, is_weekday}
 use Rattle.calendars.specs.Sets.{between}

@@ -4,7 +4,7 @@ use Rattle.std.proofs.Common.{sym, ap, ◌∙◌, arith}
 use Rattle.std.proofs.Math.Numerals.{add-one}
 use Rattle.std.proofs.Math.Nat.{add-zero, add-suc}
 use Rattle.std.proofs.lemmas.Bool.{lt-ltb, leb-true, leb-false, cond_both}
-use Rattle.calendars.specs.Sets.{before, between}
+use Rattle.calendars.specs.Sets.{before}
 use Rattle.calendars.specs.Calendars.{weekdays}
 use Rattle.calendars.specs.Walks.{NoneIn}
 

@@ -1,5 +1,5 @@
 -- The weekday and list calendars keep the law. Assumes nothing.
-use Rattle.std.specs.Prelude.{ℕ, ◌+◌, ◌<◌, ◌≤◌, List}
+use Rattle.std.specs.Prelude.{ℕ, ◌+◌, List}
 use Rattle.std.proofs.Common.{arith}
 use Rattle.std.proofs.lemmas.Bool.{and_left, le-ltb}
 use Rattle.dates.specs.Dates.{start}

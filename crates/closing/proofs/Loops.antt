@@ -1,5 +1,5 @@
 -- Loops over the classes: tests, the class that is succeeded, sums, tables. Assumes nothing.
-use Rattle.std.proofs.Common.{◌≡◌, ℕ, zero, suc, ◌+◌, ◌*◌, ◌^◌, ◌<◌, ◌≤◌, Bool, true, false, cond, not, ◌&&◌, eqb, List, map, length, get_or, set, ℤ, ◌+ℤ◌, nat_abs, Some, None, Option, sym, refl, ap, ◌∙◌, subst, ⊎_elim, mul-le-mul_left, mul-add, add-one, arith, length-set, SFits, to_z, of_z}
+use Rattle.std.proofs.Common.{◌≡◌, ℕ, ◌+◌, ◌*◌, ◌^◌, ◌<◌, ◌≤◌, Bool, true, false, cond, not, ◌&&◌, eqb, List, map, length, get_or, set, ℤ, ◌+ℤ◌, nat_abs, Some, None, Option, sym, refl, ap, ◌∙◌, subst, mul-le-mul_left, mul-add, add-one, arith, length-set, SFits, to_z, of_z}
 use mir.Syntax.{Width, w128}
 use mir.Val.{hbits}
 use Rattle.amounts.proofs.Exact.{small-fits, added}
@@ -10,7 +10,7 @@ use Rattle.closing.specs.Closing.{successors_on}
 use Rattle.std.proofs.lemmas.List.FromFn.{fill_by_all, get_or-map-range_with_len}
 use Rattle.std.proofs.lemmas.List.Edits.{fill_by_more}
 use Rattle.std.proofs.lemmas.Int.{ints, to_z-of_z}
-use Rattle.std.proofs.lemmas.Bool.{and_from, and_left, and_right, cases_eq, eq-eqb, ne_eqb, not_from_true, not_from_false, cond-true, cond-false}
+use Rattle.std.proofs.lemmas.Bool.{and_from, and_left, and_right, eq-eqb, ne_eqb, not_from_true, not_from_false, cond-true, cond-false}
 use Rattle.std.specs.List.{range_with_len}
 use Rattle.terms.specs.Laws.{Laws, names}
 use Rattle.terms.specs.Meaning.{Meaning, successor}

@@ -1,7 +1,7 @@
 -- Each day has one date, and each date one day. Assumes nothing.
-use Rattle.std.proofs.Common.{◌≡◌, ℕ, ◌+◌, ◌-◌, ◌*◌, ◌/◌, ◌%◌, ◌<◌, ◌≤◌, Bool, true, ltb, leb, Some, None, Option, sym, refl, ap, ◌∙◌, subst, arith}
+use Rattle.std.proofs.Common.{◌≡◌, ℕ, ◌+◌, ◌-◌, ◌*◌, ◌/◌, ◌%◌, ◌<◌, ◌≤◌, true, ltb, Some, sym, ap, ◌∙◌, arith}
 use Rattle.std.proofs.lemmas.Bool.{and_from, and_parts, le-leb, lt-ltb, leb-true, ltb-true}
-use Rattle.dates.specs.Dates.{when, days_in, start, month_of, InMonth, month_of_day, first_day}
+use Rattle.dates.specs.Dates.{days_in, start, month_of, InMonth, month_of_day, first_day}
 use Rattle.dates.specs.Written.{date_in, date_of, month_of_date, is_date, day_of, DatesAndDays}
 use Rattle.dates.specs.declared.date.Date.{Date}
 use Rattle.dates.proofs.MonthLaws.{start-next, start-inside, month-holds, month-only, month-range, given, told}

@@ -1,5 +1,5 @@
 -- Dates as year, month and day, and as text. Assumes nothing.
-use Rattle.std.specs.Prelude.{◌≡◌, ℕ, ◌+◌, ◌-◌, ◌*◌, ◌/◌, ◌%◌, ◌<◌, ◌≤◌, Bool, true, false, cond, ◌&&◌, List, [], ◌∷◌, ◌++◌, Some, None, codes, decimal, Option, nat_le, nat_lt, slice_index_or}
+use Rattle.std.specs.Prelude.{◌≡◌, ℕ, ◌+◌, ◌-◌, ◌*◌, ◌/◌, ◌%◌, Bool, ◌&&◌, List, [], ◌∷◌, ◌++◌, Some, codes, decimal, Option, nat_le, nat_lt, slice_index_or}
 use Rattle.dates.specs.Dates.{when, days_in, start, month_of}
 use Rattle.dates.specs.declared.date.Date.{Date}
 

@@ -5,7 +5,7 @@ use Rattle.amounts.specs.SumsOfWhole.{if_z}
 use Rattle.calendars.specs.Calendars.{weekdays}
 use Rattle.figures.specs.Products.{baseload_terms}
 use Rattle.ledger.specs.Calls.{parts_pay, settle_pay}
-use Rattle.ledger.specs.State.{State, started, quantity_now}
+use Rattle.ledger.specs.State.{State, quantity_now}
 use Rattle.power.specs.Hours.{baseload, peakload}
 use Rattle.terms.specs.Meaning.{Meaning, has_some_part, successor, class_quantity}
 use Rattle.wheat.specs.Wheat.{wheat}

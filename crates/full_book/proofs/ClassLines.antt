@@ -7,7 +7,7 @@ use Rattle.coded.specs.declared.class_line.ClassLine.{ClassLine}
 use Rattle.ledger.specs.Make.{lines_fit}
 use Rattle.full_book.specs.Tables.{no_line, filled_line, filled}
 use Rattle.std.proofs.lemmas.List.{at_drop_more, at_drop_all, get_or-map, length-map}
-use Rattle.std.proofs.lemmas.Bool.{and_parts, cases_Bool, cases_lt, eqb-true, false≢true, lt-ltb, le-ltb}
+use Rattle.std.proofs.lemmas.Bool.{and_parts, cases_Bool, cases_lt, eqb-true, lt-ltb, le-ltb}
 
 -- as many lines as classes
 lines-count : (k n : ℕ) (xs : List ClassLine) → lines_fit k n xs ≡ true → k + length xs ≡ n

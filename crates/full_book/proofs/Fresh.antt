@@ -1,5 +1,5 @@
 -- A new book's tables are sound. Assumes nothing.
-use Rattle.std.proofs.Common.{◌≡◌, ℕ, ◌*◌, ◌<◌, ◌≤◌, ◌&&◌, leb, List, length, get_or, replicate, ℤ, pos, nat_abs, None, sym, refl, ap, ◌∙◌, subst, ⊎_elim, arith}
+use Rattle.std.proofs.Common.{◌≡◌, ℕ, ◌*◌, ◌≤◌, ◌&&◌, leb, List, get_or, replicate, ℤ, pos, nat_abs, None, sym, refl, subst, ⊎_elim, arith}
 use lib.ListN.{get_or-replicate, length-replicate}
 use Rattle.full_book.proofs.ClassLines.{filled-rises}
 use Rattle.full_book.specs.Sound.{Sound}

@@ -1,10 +1,9 @@
 -- Payments as they are worked out, and as they are defined. Assumes nothing.
-use Rattle.std.proofs.Common.{◌≡◌, ℕ, ◌<◌, Bool, true, false, List, ◌++◌, map, drop, ℤ, pos, ◌+ℤ◌, Some, None, Ok, Err, Option, sym, refl, ap, ◌∙◌, arith}
+use Rattle.std.proofs.Common.{◌≡◌, ℕ, ◌<◌, Bool, true, false, List, ◌++◌, drop, ℤ, pos, ◌+ℤ◌, Some, None, Ok, Err, Option, sym, refl, ap, ◌∙◌, arith}
 use Rattle.full_book.proofs.Rows.{each_same}
 use Rattle.full_book.specs.Paying.{pay_refusal}
 use Rattle.full_book.specs.Replies.{reply}
 use Rattle.full_book.specs.Tables.{account_of, credited, paid_tables, with_accounts}
-use Rattle.full_book.specs.declared.tables.Account.{Account}
 use Rattle.full_book.specs.declared.tables.Tables.{Tables}
 use Rattle.ledger.proofs.Tests.{all_same}
 use Rattle.ledger.specs.Calls.{cash_fits}

@@ -1,5 +1,5 @@
 -- A list of calls, one after another. Assumes nothing.
-use Rattle.std.proofs.Common.{◌≡◌, ℕ, ◌+◌, ◌<◌, ◌≤◌, min, Bool, true, false, leb, List, [], ◌∷◌, ◌++◌, map, reverse, length, take, set, ℤ, Some, None, Option, sym, refl, ap, ◌∙◌, subst, ⊎_elim, arith}
+use Rattle.std.proofs.Common.{◌≡◌, ℕ, ◌+◌, ◌<◌, ◌≤◌, min, leb, List, [], ◌∷◌, reverse, length, take, set, ℤ, Some, None, Option, sym, refl, ap, ◌∙◌, subst, ⊎_elim, arith}
 use Rattle.full_book.proofs.TablesStanding.{tables-stand}
 use Rattle.full_book.specs.Replies.{reply, fault_in}
 use Rattle.full_book.specs.Tables.{view, after_tables}

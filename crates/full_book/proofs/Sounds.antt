@@ -1,5 +1,5 @@
 -- A book's tables stay sound where the accounts in use and the prices change. Assumes nothing.
-use Rattle.std.proofs.Common.{◌≡◌, ℕ, ◌*◌, ◌≤◌, List, length, ℤ, nat_abs, ◌∙◌, arith}
+use Rattle.std.proofs.Common.{◌≡◌, ℕ, ◌*◌, ◌≤◌, List, length, nat_abs, ◌∙◌, arith}
 use Rattle.full_book.proofs.Rows.{length-below, of-below}
 use Rattle.full_book.specs.Sound.{Sound}
 use Rattle.full_book.specs.Tables.{account_of, each_below}

@@ -1,5 +1,5 @@
 -- A close by what the terms say of its day. Assumes nothing.
-use Rattle.std.specs.Prelude.{ℕ, true, cond, not, List, replicate, ℤ, pos, is_some, None, Option, nat_le}
+use Rattle.std.specs.Prelude.{ℕ, true, cond, not, replicate, ℤ, pos, is_some, None, Option, nat_le}
 use Rattle.full_book.specs.Tables.{account_of, prices_of, each_below}
 use Rattle.full_book.specs.declared.tables.Account.{Account}
 use Rattle.full_book.specs.declared.tables.Tables.{Tables}

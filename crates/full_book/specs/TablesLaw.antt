@@ -6,7 +6,6 @@ use Rattle.ledger.specs.History.{History}
 use Rattle.ledger.specs.Ledger.{Ledger, Agrees}
 use Rattle.ledger.specs.Make.{make_refusal}
 use Rattle.ledger.specs.declared.call.Call.{Call}
-use Rattle.ledger.specs.declared.entry.Entry.{Entry}
 use Rattle.full_book.specs.Tables.{view, made_tables, after_tables}
 use Rattle.full_book.specs.declared.tables.Tables.{Tables}
 use Rattle.terms.specs.Laws.{Laws}

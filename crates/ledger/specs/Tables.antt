@@ -1,5 +1,5 @@
 -- The calls on the declared tables, and what the tables hold. Assumes nothing.
-use Rattle.std.specs.Prelude.{◌≡◌, ℕ, ◌+◌, ◌-◌, ◌<◌, cond, List, [], ◌∷◌, ◌++◌, map, length, replicate, ℤ, pos, ◌+ℤ◌, ◌*ℤ◌, neg_ℤ, Some, None, Option, slice_index_or, slice_set}
+use Rattle.std.specs.Prelude.{◌≡◌, ℕ, ◌+◌, ◌-◌, ◌<◌, cond, List, [], ◌++◌, map, length, replicate, ℤ, pos, ◌+ℤ◌, ◌*ℤ◌, neg_ℤ, Some, None, slice_index_or, slice_set}
 use Rattle.amounts.specs.Amounts.{final_payment}
 use Rattle.coded.specs.declared.class_line.ClassLine.{ClassLine}
 use Rattle.ledger.specs.Calls.{newest, source_of, after_parts, close_pay, refusal}

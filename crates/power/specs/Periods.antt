@@ -1,12 +1,12 @@
 -- The own period of a day, told by its month and the open days left, and on the next open day. Assumes nothing.
-use Rattle.std.specs.Prelude.{◌≡◌, ℕ, ◌+◌, ◌-◌, ◌*◌, ◌/◌, ◌%◌, ◌<◌, ◌≤◌, Bool, true, false, cond, not, ◌&&◌, ◌==◌, ◌≢◌, nat_eq, nat_lt, refl}
+use Rattle.std.specs.Prelude.{◌≡◌, ℕ, ◌+◌, ◌-◌, ◌*◌, ◌/◌, ◌%◌, ◌<◌, ◌≤◌, Bool, false, cond, not, ◌&&◌, ◌==◌, ◌≢◌, nat_eq, nat_lt, refl}
 use Rattle.std.proofs.Common.{sym, ap, ◌∙◌, ⊎_elim, arith}
 use Rattle.std.proofs.lemmas.Bool.{cases_eq, cases_lt, eq-eqb, ne_eqb, le-ltb}
 use Rattle.std.proofs.lemmas.Bool.Decides.{nat_tests}
 use Rattle.calendars.specs.Counts.{before-rises}
 use Rattle.calendars.proofs.Steps.{next-same, next-left, next-turn}
 use Rattle.calendars.specs.Calendars.{Lawful}
-use Rattle.calendars.specs.Sets.{before, between}
+use Rattle.calendars.specs.Sets.{between}
 use Rattle.calendars.specs.Walks.{left, Next}
 use Rattle.dates.proofs.MonthLaws.{month-holds, start-rises}
 use Rattle.dates.specs.Dates.{start, month_of}

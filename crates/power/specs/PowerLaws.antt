@@ -5,7 +5,7 @@ use Rattle.std.proofs.lemmas.Bool.{cases_eq, cases_lt, eqb-true, ne_eqb, lt-ltb,
 use Rattle.std.proofs.lemmas.List.{get_or_past}
 use Rattle.std.proofs.lemmas.Bool.Decides.{nat_tests}
 use Rattle.calendars.specs.Calendars.{Lawful}
-use Rattle.calendars.specs.Walks.{left, left_in_month, Next}
+use Rattle.calendars.specs.Walks.{left, left_in_month}
 use Rattle.dates.proofs.Below.{at}
 use Rattle.dates.proofs.MonthLaws.{told}
 use Rattle.dates.specs.Dates.{when, month_of, month_of_day}
@@ -19,8 +19,8 @@ use Rattle.terms.proofs.Chains.{moved, apart}
 use Rattle.terms.proofs.Listings.{Answered, answered-month, Kept, laws, on-answered}
 use Rattle.terms.specs.Chain.{moves_up}
 use Rattle.terms.specs.Listing.{answers_for}
-use Rattle.terms.specs.Laws.{Laws, InRange, names}
-use Rattle.terms.specs.Meaning.{sum_below, any_below, one, in_months, is_part, has_some_part}
+use Rattle.terms.specs.Laws.{Laws, names}
+use Rattle.terms.specs.Meaning.{sum_below, any_below, one, in_months}
 use Rattle.terms.specs.declared.class_terms.Months.{Months}
 
 -- a set of classes has one, and how many it has

@@ -1,8 +1,8 @@
 -- What the tables of the classes say. Assumes nothing.
-use Rattle.std.specs.Prelude.{◌≡◌, ℕ, ◌+◌, ◌*◌, ◌/◌, ◌<◌, ◌≤◌, Bool, true, false, cond, not, ◌&&◌, ◌||◌, leb, ◌⊎◌, List, is_some, Some, None, Option, ◌==◌, ◌≢◌, nat_le, nat_lt, slice_index_or, refl}
-use Rattle.std.proofs.Common.{sym, subst, inl, inr, ⊎_elim, arith}
-use Rattle.std.proofs.lemmas.Bool.{eqb-true, leb-true, or_cases, and_parts, cases_Bool, false≢true, cond-true, cond-false}
-use Rattle.dates.proofs.Below.{every, at}
+use Rattle.std.specs.Prelude.{◌≡◌, ℕ, ◌+◌, ◌*◌, ◌/◌, ◌<◌, ◌≤◌, Bool, true, false, cond, not, ◌&&◌, ◌||◌, leb, ◌⊎◌, List, is_some, None, Option, ◌==◌, ◌≢◌, nat_le, nat_lt, slice_index_or, refl}
+use Rattle.std.proofs.Common.{sym, subst, inl, inr, ⊎_elim}
+use Rattle.std.proofs.lemmas.Bool.{eqb-true, leb-true, or_cases, cases_Bool, false≢true, cond-true, cond-false}
+use Rattle.dates.proofs.Below.{at}
 use Rattle.power.specs.Classes.{length_of, place_of, earlier, no_parts, quarter_parts, year_parts, cascade, chain}
 use Rattle.terms.proofs.Chains.{fits}
 

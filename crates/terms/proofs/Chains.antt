@@ -1,6 +1,6 @@
 -- What moving up by one place keeps, for every product. Assumes nothing.
 use Rattle.std.proofs.Common.{◌≡◌, ℕ, ◌+◌, ◌<◌, Bool, true, false, cond, ◌&&◌, eqb, ltb, Some, None, Option, sym, refl, ap, ◌∙◌, subst, add-zero, arith}
-use Rattle.std.proofs.lemmas.Bool.{and_parts, and_from, eqb-true, eq-eqb, ltb-true, cond-true, false≢true}
+use Rattle.std.proofs.lemmas.Bool.{and_parts, and_from, eqb-true, eq-eqb, ltb-true, cond-true}
 use Rattle.dates.proofs.Below.{every, at}
 use Rattle.terms.specs.Chain.{Chain, moves_up}
 use Rattle.terms.specs.Meaning.{one}

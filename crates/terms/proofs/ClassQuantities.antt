@@ -1,13 +1,12 @@
 -- The quantity of a class, of its parts and of its successor. Assumes nothing.
-use Rattle.std.proofs.Common.{◌≡◌, ℕ, zero, suc, ◌+◌, ◌*◌, ◌<◌, ◌≤◌, Bool, true, false, cond, ◌&&◌, eqb, ltb, leb, Some, None, Option, unwrap_or, sym, refl, ap, ◌∙◌, add-zero, mul-zero, mul-one, arith}
+use Rattle.std.proofs.Common.{◌≡◌, ℕ, zero, suc, ◌+◌, ◌*◌, ◌<◌, ◌≤◌, Bool, true, false, cond, ◌&&◌, eqb, ltb, leb, Some, None, unwrap_or, sym, ap, ◌∙◌, mul-zero, mul-one, arith}
 use Rattle.std.proofs.lemmas.Bool.{lt-ltb}
 use Rattle.std.proofs.lemmas.Bool.Decides.{nat_tests}
 use Rattle.dates.specs.Dates.{when}
-use Rattle.terms.specs.Meaning.{Meaning, sum_below, one, in_months, has, months_of, is_part, class_quantity}
+use Rattle.terms.specs.Meaning.{Meaning, sum_below, one, in_months, has, is_part, class_quantity}
 use Rattle.terms.specs.Laws.{Laws}
 use Rattle.terms.specs.Quantities.{PartsAndSuccessors}
 use Rattle.terms.specs.declared.class_terms.ClassTerms.{ClassTerms}
-use Rattle.terms.specs.declared.class_terms.Months.{Months}
 use Rattle.terms.proofs.Sums.{sum-ext, sum-add, sum-scale, sum-none, sum-swap, sum-if, sum-at}
 
 -- one month more in a run

@@ -1,10 +1,10 @@
 -- No month is lost when a day is closed. Assumes nothing.
-use Rattle.std.proofs.Common.{◌≡◌, ℕ, zero, suc, ◌+◌, ◌<◌, ◌≤◌, Bool, true, false, cond, ◌&&◌, ◌||◌, ltb, is_some, Some, None, Option, sym, refl, ap, ◌∙◌, subst, ⊎_elim, add-one, arith}
-use Rattle.std.proofs.lemmas.Bool.{and_parts, and_right, or_left, or_right, cases_Bool, cases_eq, cases_lt, false≢true, true≢false, ltb-true}
+use Rattle.std.proofs.Common.{◌≡◌, ℕ, zero, suc, ◌+◌, ◌<◌, Bool, true, false, cond, ◌&&◌, is_some, Some, None, Option, sym, refl, ap, ◌∙◌, ⊎_elim, add-one, arith}
+use Rattle.std.proofs.lemmas.Bool.{and_parts, or_left, or_right, cases_eq, cases_lt, false≢true, ltb-true}
 use Rattle.calendars.proofs.Firsts.{found, none_found}
-use Rattle.calendars.specs.Walks.{first_from, Next}
+use Rattle.calendars.specs.Walks.{Next}
 use Rattle.terms.proofs.Sums.{sum-ext, sum-none}
-use Rattle.terms.specs.Heirs.{successor_of, part_with, heir_of, MonthsFollow}
+use Rattle.terms.specs.Heirs.{successor_of, part_with, MonthsFollow}
 use Rattle.terms.specs.Laws.{Laws, is_taken_over}
 use Rattle.terms.specs.Meaning.{Meaning, answers, sum_below, any_below, one, in_months, has, is_part, has_some_part, successor, tradable}
 use Rattle.terms.specs.declared.class_terms.ClassTerms.{ClassTerms}

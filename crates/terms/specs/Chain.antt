@@ -1,5 +1,5 @@
 -- Chains of classes that move up by one place. Assumes nothing.
-use Rattle.std.specs.Prelude.{ℕ, Bool, cond, Some, None, Option}
+use Rattle.std.specs.Prelude.{ℕ, Bool, cond, Some, Option}
 
 -- Classes stand in chains, one for each kind, at places that rise by one. As time passes the period of a kind's first
 -- place moves on by one, and then each class of the kind hands over to the class one place before it.

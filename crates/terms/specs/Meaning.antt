@@ -1,5 +1,5 @@
 -- What terms mean: the classes of each day. Assumes nothing.
-use Rattle.std.specs.Prelude.{ℕ, zero, suc, ◌+◌, Bool, true, false, cond, ◌&&◌, ◌||◌, List, Some, None, Option, nat_le, nat_lt, slice_index_or}
+use Rattle.std.specs.Prelude.{ℕ, zero, suc, ◌+◌, Bool, false, cond, ◌&&◌, ◌||◌, Some, None, Option, nat_le, nat_lt, slice_index_or}
 use Rattle.terms.specs.declared.class_terms.ClassTerms.{ClassTerms}
 use Rattle.terms.specs.declared.class_terms.Months.{Months}
 

@@ -1,5 +1,5 @@
 -- Durum wheat keeps the laws of terms over every calendar, and the law of T01. Assumes nothing.
-use Rattle.std.specs.Prelude.{◌≡◌, ℕ, zero, suc, ◌+◌, ◌-◌, ◌<◌, ◌≤◌, Bool, true, false, cond, not, ◌&&◌, ◌||◌, leb, replicate, is_some, Some, None, Option, MatchOption, ◌==◌, ◌≢◌, nat_le, nat_lt, refl}
+use Rattle.std.specs.Prelude.{◌≡◌, ℕ, ◌+◌, ◌-◌, ◌<◌, ◌≤◌, Bool, true, false, cond, not, ◌&&◌, ◌||◌, leb, is_some, Some, None, Option, MatchOption, ◌==◌, ◌≢◌, nat_le, nat_lt, refl}
 use Rattle.std.proofs.Common.{sym, ap, subst, ◌∙◌, ⊎_elim, arith, lit≤}
 use Rattle.std.proofs.lemmas.Bool.{cond_both, cond-true, cond-false, false≢true, both_ways, and_parts, or_cases, eqb-true, leb-true, ltb-true, eq-eqb, ne_eqb}
 use Rattle.dates.specs.Dates.{when, start}

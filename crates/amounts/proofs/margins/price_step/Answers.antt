@@ -1,4 +1,4 @@
-use Rattle.std.proofs.Common.{◌^◌, ℤ, pos, ◌*ℤ◌, arith, lit<, w64, to_z, of_z}
+use Rattle.std.proofs.Common.{◌^◌, pos, ◌*ℤ◌, arith, lit<, w64, to_z, of_z}
 use Rattle.std.proofs.lemmas.Int.{ints}
 use Rattle.amounts.proofs.Exact.{Exact, exact}
 use Rattle.amounts.proofs.Ring.{product_le}

@@ -1,4 +1,4 @@
-use Rattle.std.proofs.Common.{◌≡◌, ◌≤◌, ℤ, ◌*ℤ◌, nat_abs, sym, subst, arith, lit<, w64}
+use Rattle.std.proofs.Common.{◌≤◌, ℤ, ◌*ℤ◌, nat_abs, sym, subst, arith, lit<, w64}
 use Rattle.std.proofs.lemmas.Int.{ints}
 use Rattle.amounts.proofs.Exact.{Exact, exact}
 use Rattle.amounts.proofs.Ring.{product_le}

@@ -1,4 +1,4 @@
-use Rattle.std.proofs.Common.{◌≡◌, map, get_or, sym, ◌∙◌, subst, arith}
+use Rattle.std.proofs.Common.{map, sym, ◌∙◌, subst, arith}
 use Rattle.std.proofs.lemmas.List.{length-map}
 use Rattle.coded.proofs.Found.{Narrowed, unread, raised, lowered, here, nowhere, was-here, was-before, was-after}
 use Rattle.coded.proofs.finding.find.Goals as goal

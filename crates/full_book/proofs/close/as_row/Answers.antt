@@ -1,4 +1,4 @@
-use Rattle.std.proofs.Common.{◌≡◌, pos, sym, ◌∙◌, arith, length-set}
+use Rattle.std.proofs.Common.{pos, sym, ◌∙◌, arith, length-set}
 use Rattle.full_book.proofs.Rows.{filled_more}
 use Rattle.ledger.specs.Tables.{at}
 use Rattle.std.proofs.lemmas.List.{ext_get_or}

@@ -1,4 +1,4 @@
-use Rattle.std.proofs.Common.{◌≡◌, eqb, get_or, sym, ap, ◌∙◌, arith}
+use Rattle.std.proofs.Common.{eqb, get_or, sym, ap, ◌∙◌, arith}
 use Rattle.full_book.specs.Lines.{line_fits}
 use Rattle.full_book.specs.Tables.{no_line}
 use Rattle.full_book.proofs.ClassLines.{too_many, line-no, line-yes, lines_end}

@@ -1,4 +1,4 @@
-use Rattle.std.proofs.Common.{set, ap, ◌∙◌, arith}
+use Rattle.std.proofs.Common.{set, ◌∙◌, arith}
 use Rattle.ledger.specs.Tables.{at}
 use Rattle.full_book.proofs.Pays.{lines_more}
 use Rattle.full_book.proofs.pay.write_lines.Goals as goal

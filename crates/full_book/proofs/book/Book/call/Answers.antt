@@ -1,6 +1,4 @@
-use Rattle.std.proofs.Common.{sym, ap, ◌∙◌, rules}
-use Rattle.std.proofs.lemmas.Int.{to_z-of_z}
-use Rattle.full_book.proofs.Replays.{fault-replied}
+use Rattle.std.proofs.Common.{rules}
 use Rattle.full_book.proofs.book.Book.call.Goals as goal
 
 pub returns-in-Trade : goal.returns-in-Trade

@@ -1,4 +1,4 @@
-use Rattle.std.proofs.Common.{◌≡◌, ℕ, ◌<◌, ◌≤◌, length, nat_abs, None, Err, sym, ap, ◌∙◌, subst, arith, rules}
+use Rattle.std.proofs.Common.{ℕ, ◌<◌, ◌≤◌, length, nat_abs, None, Err, sym, ap, ◌∙◌, subst, arith, rules}
 use Rattle.full_book.proofs.Closings.{asked, close-early, close_late, close-list, close-refused, close-done, paid-small, sound-carried}
 use Rattle.full_book.proofs.Paid.{kept, replied-err, replied-ok}
 use Rattle.full_book.proofs.Settles.{sound-unless}

@@ -1,4 +1,4 @@
-use Rattle.std.proofs.Common.{replicate, pos, Option, refl, ap, ◌∙◌}
+use Rattle.std.proofs.Common.{replicate, pos, refl, ap, ◌∙◌}
 use Rattle.full_book.proofs.Replays.{fault-replied, close-room}
 use Rattle.full_book.specs.Replies.{fault_in}
 use Rattle.full_book.specs.Tables.{closed_tables}

@@ -1,4 +1,4 @@
-use Rattle.std.proofs.Common.{◌≡◌, ◌<◌, sym, ◌∙◌, arith}
+use Rattle.std.proofs.Common.{◌<◌, sym, ◌∙◌, arith}
 use Rattle.ledger.proofs.Tests.{all_more, all-not}
 use Rattle.full_book.proofs.book.Book.holds_priced.Goals as goal
 

@@ -1,4 +1,4 @@
-use Rattle.std.proofs.Common.{◌≡◌, ◌≤◌, true, cond, eqb, nat_abs, is_some}
+use Rattle.std.proofs.Common.{◌≡◌, true, cond, eqb, nat_abs, is_some}
 use Rattle.full_book.specs.Tables.{account_of, prices_of}
 use Rattle.ledger.specs.Words.{all_below}
 use Rattle.ledger.specs.Tables.{at}

@@ -1,4 +1,4 @@
-use Rattle.std.proofs.Common.{◌≡◌, [], sym, ◌∙◌, rules}
+use Rattle.std.proofs.Common.{[], sym, ◌∙◌, rules}
 use Rattle.full_book.proofs.Fresh.{made-sound}
 use Rattle.full_book.proofs.TablesStanding.{tables-stand}
 use Rattle.full_book.proofs.book.Book.make.Goals as goal

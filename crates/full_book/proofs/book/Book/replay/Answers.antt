@@ -1,4 +1,4 @@
-use Rattle.std.proofs.Common.{◌≡◌, ◌+◌, List, [], map, reverse, get_or, take, set, pos, None, sym, refl, ap, ◌∙◌, subst, arith}
+use Rattle.std.proofs.Common.{◌+◌, List, [], map, reverse, get_or, take, set, pos, None, sym, refl, ap, ◌∙◌, subst, arith}
 use lib.Seq.{map-set_same}
 use Rattle.full_book.proofs.Replays.{one_more}
 use Rattle.full_book.specs.Tables.{view, after_tables}

@@ -1,4 +1,4 @@
-use Rattle.std.proofs.Common.{◌≡◌, ℕ, ◌<◌, length, Err, sym, ap, ◌∙◌, subst, arith, w32, rules}
+use Rattle.std.proofs.Common.{◌≡◌, ℕ, ◌<◌, length, Err, sym, ap, ◌∙◌, subst, w32, rules}
 use Rattle.full_book.proofs.Paid.{kept, replied-err, replied-ok}
 use Rattle.full_book.proofs.Settles.{settle-early, settle-late, settle-list, settle-refused, settle-done, sound-emptied, sound-unless}
 use Rattle.full_book.specs.Paying.{pay_refusal}

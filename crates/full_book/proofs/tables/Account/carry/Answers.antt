@@ -1,4 +1,4 @@
-use Rattle.std.proofs.Common.{◌≡◌, ◌≤◌, replicate, pos, nat_abs, sym, ◌∙◌, subst}
+use Rattle.std.proofs.Common.{◌≤◌, replicate, pos, nat_abs, sym, ◌∙◌, subst}
 use Rattle.ledger.specs.Tables.{at}
 use Rattle.full_book.proofs.tables.Account.carry.Goals as goal
 

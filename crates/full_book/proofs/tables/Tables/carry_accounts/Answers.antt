@@ -1,4 +1,4 @@
-use Rattle.std.proofs.Common.{◌≡◌, ℕ, ◌≤◌, nat_abs, sym, subst, arith}
+use Rattle.std.proofs.Common.{ℕ, ◌≤◌, nat_abs, sym, subst, arith}
 use Rattle.full_book.specs.Closes.{carried}
 use Rattle.full_book.specs.declared.tables.Account.{Account}
 use Rattle.closing.specs.Closing.{moved_lots}

@@ -1,4 +1,4 @@
-use Rattle.std.proofs.Common.{◌≡◌, false, Some, sym, ap, ◌∙◌, arith}
+use Rattle.std.proofs.Common.{false, Some, sym, ap, ◌∙◌, arith}
 use Rattle.dates.proofs.MonthLaws.{month-only}
 use Rattle.power.specs.PowerLaws.{class-answer}
 use Rattle.power.specs.Monthly.{class_by}
