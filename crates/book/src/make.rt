@@ -3,7 +3,7 @@ ghost use Rattle.std.specs.Prelude.{◌≡◌, ℕ, ◌-◌, ◌≤◌, true, �
 ghost use Rattle.ledger.specs.Make.{lines_fit, make_refusal};
 ghost use Rattle.book.specs.Lines.{line_fits};
 ghost use Rattle.ledger.specs.State.{start_day};
-ghost use Rattle.ledger.specs.Tables.{empty_account, no_prices, filled as filledWith, made_tables};
+ghost use Rattle.ledger.specs.Tables.{empty_account, no_prices, filled as filled_with, made_tables};
 
 use crate::book::Book;
 use coded::ClassLine;
@@ -44,7 +44,7 @@ fn lines_fit(classes: u32, lines: &[ClassLine]) -> bool
 // The class lines, and lines that are none up to twelve.
 fn filled(lines: &[ClassLine]) -> [ClassLine; 12]
     requires { length lines.now ≤ 12 }
-    ensures is { result ≡ filledWith lines.now }
+    ensures is { result ≡ filled_with lines.now }
 {
     let mut all = [NO_LINE; 12];
     for (i, line) in lines.iter().enumerate() {

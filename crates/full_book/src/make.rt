@@ -2,7 +2,7 @@
 ghost use Rattle.std.specs.Prelude.{◌≡◌, ◌≤◌, [], IfOk, Some, None, MatchResult};
 ghost use Rattle.ledger.specs.Make.{lines_fit, make_refusal};
 ghost use Rattle.full_book.specs.Lines.{line_fits};
-ghost use Rattle.full_book.specs.Tables.{filled_line, filled as filledWith, made_tables};
+ghost use Rattle.full_book.specs.Tables.{filled_line, filled as filled_with, made_tables};
 ghost use Rattle.full_book.specs.TablesLaw.{Life};
 
 use crate::book::Book;
@@ -48,7 +48,7 @@ fn line_of(lines: &[ClassLine], class: u32) -> ClassLine
 }
 
 fn filled(lines: &[ClassLine]) -> [ClassLine; 12]
-    ensures { result ≡ filledWith lines.now }
+    ensures { result ≡ filled_with lines.now }
 {
     let mut all = [line_of(lines, 0); 12];
     for class in 0..12u32 {

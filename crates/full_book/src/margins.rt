@@ -4,7 +4,7 @@ ghost use Rattle.amounts.specs.SumsOfWhole.{sum_z};
 ghost use Rattle.full_book.specs.Replies.{reply};
 ghost use Rattle.full_book.specs.Sound.{Lined};
 ghost use Rattle.full_book.specs.Tables.{account_of, prices_of, view};
-ghost use Rattle.ledger.specs.Questions.{held_priced, line_interval, interval_of, margin_price, repricing_of, margin_of, margin_in, margins as marginsOf, margins_refusal};
+ghost use Rattle.ledger.specs.Questions.{held_priced, line_interval, interval_of, margin_price, repricing_of, margin_of, margin_in, margins as margins_of, margins_refusal};
 ghost use Rattle.ledger.specs.Tables.{at};
 
 use crate::book::Book;
@@ -124,7 +124,7 @@ impl<T: Terms> Book<T> {
 
     // An account's total margin, never positive: every class that it holds must have a last price.
     pub fn margins(&self, account: u32) -> Result<i128, Fault>
-        ensures { result ≡ reply (margins_refusal (T.meaning self.now.terms) (view self.now.tables) account) (marginsOf (T.meaning self.now.terms) self.now.tables.lines (view self.now.tables) account) }
+        ensures { result ≡ reply (margins_refusal (T.meaning self.now.terms) (view self.now.tables) account) (margins_of (T.meaning self.now.terms) self.now.tables.lines (view self.now.tables) account) }
     {
         if !self.known(account) {
             return Err(Fault::UnknownAccount);

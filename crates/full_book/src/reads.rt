@@ -2,7 +2,7 @@
 ghost use Rattle.std.specs.Prelude.{◌≡◌, ◌<◌};
 ghost use Rattle.full_book.specs.Replies.{reply};
 ghost use Rattle.ledger.specs.Calls.{known as known_in};
-ghost use Rattle.ledger.specs.Questions.{holding_refusal, holding as holdingOf, cash_refusal, cash as cashOf};
+ghost use Rattle.ledger.specs.Questions.{holding_refusal, holding as holding_of, cash_refusal, cash as cash_of};
 ghost use Rattle.full_book.specs.Tables.{prices_of, view};
 
 use crate::book::Book;
@@ -52,7 +52,7 @@ impl<T: Terms> Book<T> {
 
     // An account's cash.
     pub fn cash(&self, account: u32) -> Result<i64, Fault>
-        ensures { result ≡ reply (cash_refusal (view self.now.tables) account) (cashOf (view self.now.tables) account) }
+        ensures { result ≡ reply (cash_refusal (view self.now.tables) account) (cash_of (view self.now.tables) account) }
     {
         if !self.known(account) {
             return Err(Fault::UnknownAccount);
@@ -62,7 +62,7 @@ impl<T: Terms> Book<T> {
 
     // An account's lots in a class.
     pub fn holding(&self, account: u32, class: u32) -> Result<i32, Fault>
-        ensures { result ≡ reply (holding_refusal (T.meaning self.now.terms) (view self.now.tables) account class) (holdingOf (view self.now.tables) account class) }
+        ensures { result ≡ reply (holding_refusal (T.meaning self.now.terms) (view self.now.tables) account class) (holding_of (view self.now.tables) account class) }
     {
         if !self.known(account) {
             return Err(Fault::UnknownAccount);

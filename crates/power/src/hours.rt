@@ -4,8 +4,7 @@ ghost use Rattle.calendars.specs.Calendars.{weekdays};
 ghost use Rattle.calendars.specs.Sets.{between};
 ghost use Rattle.dates.specs.Dates.{when};
 ghost use Rattle.power.specs.Hours.{baseload, peakload, Bounded};
-ghost use Rattle.std.proofs.Common.{rules};
-ghost use Rattle.power.specs.HourLaws.{peakload-bounded};
+ghost use Rattle.power.specs.HourLaws.{baseload-bounded, peakload-bounded};
 
 use calendars::{OpenDays, Weekdays};
 
@@ -33,7 +32,7 @@ impl Profile for Baseload {
 
     ghost second = { λ _. true };
 
-    ghost bounded = { Prim.search rules };
+    ghost bounded = { λ p. baseload-bounded };
 
     fn hours_of(&self, month: u32) -> Option<u32> {
         let hours = 24 * dates::month_length(month)?;
