@@ -1,5 +1,6 @@
 #!/usr/bin/env python3
-"""Brings the names of definitions and lemmas in specs/ and proofs/ to snake case, in all files that cite them.
+"""Brings the names of definitions and lemmas in specs/ and proofs/, and of the parts of records in specs/, to snake case,
+in all files that cite them.
 
 Run at the top of the repository, after the toolchain's port.py. Records, facts, modules and the functions of src/ keep
 their names. A second run changes nothing.
@@ -16,6 +17,13 @@ OTHERWISE = {
     "natAbs-*": "nat_abs-*",
     "natAbs-neg": "nat_abs-neg",
 }
+
+# the parts of records in specs/ that had dashes
+PARTS = """
+never-positive buyer-known seller-known class-known lots-small price-small buyer-room seller-room
+lots-balance cash-balances open-months settled-months cash-explained
+margin-below margin-rounded baseload-law peakload-law wheat-law
+""".split()
 
 DEFINED = re.compile(
     r"^\s*(?:abbrev |unfoldable )?(?:pub )?([a-z][^\s:(){}]*)\s*(?:\([^)]*\)|\{[^}]*\}|\s)*:(?!=)"
@@ -49,6 +57,7 @@ def names():
 
 def main():
     new = names()
+    new.update((part, part.replace("-", "_")) for part in PARTS)
     for path in files():
         with open(path, encoding="utf-8") as text:
             old = text.read()

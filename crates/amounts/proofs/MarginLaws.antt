@@ -50,8 +50,8 @@ floor-not-positive : (z : ℤ) → z ≤ℤ pos 0 → floor_by 50000 z ≤ℤ po
 floor-not-positive (pos a) l = omega (arith, ints)
 floor-not-positive (negsuc a) l = omega (arith, ints)
 
-never-positive : (P : ℤ) (i q : ℕ) (h r : ℤ) → All (λ x. r ≤ℤ x) (ten_results P i q h) → r ≤ℤ pos 0
-never-positive P i q h r below =
+never_positive : (P : ℤ) (i q : ℕ) (h r : ℤ) → All (λ x. r ≤ℤ x) (ten_results P i q h) → r ≤ℤ pos 0
+never_positive P i q h r below =
     let z = step_product P i q h (pos 1) in
     let down : r ≤ℤ floor_by 50000 (step_product P i q h (negsuc 0)) = All-get_or (λ x. r ≤ℤ x) (ten_results P i q h) 4 (pos 0) (lit< tt) below in
     let up : r ≤ℤ floor_by 50000 z = All-get_or (λ x. r ≤ℤ x) (ten_results P i q h) 5 (pos 0) (lit< tt) below in
@@ -69,7 +69,7 @@ least-of-ten P i q h r e =
           (λ (f : r ≡ step_result P i q h (negsuc 4)). subst (Contains (ten_results P i q h)) (sym f) (Contains-get_or (ten_results P i q h) 0 (pos 0) (lit< tt)))
           (λ (f : Contains (ten_results P i q h) r). f)
           (fold-int_min_reached (step_result P i q h (negsuc 4)) (ten_results P i q h) r e);
-      never-positive = never-positive P i q h r below;
+      never_positive = never_positive P i q h r below;
     }
 
 -- the size of a margin, at every value that the types of its arguments have

@@ -36,7 +36,7 @@ class_margin price i q h = least_of (ten_results price i q h)
 pub record LeastOfTen (price : ℤ) (i q : ℕ) (h r : ℤ) : Type 0 where
   pub at_most : All (λ x. r ≤ℤ x) (ten_results price i q h)
   pub one_of : Contains (ten_results price i q h) r
-  pub never-positive : r ≤ℤ pos 0
+  pub never_positive : r ≤ℤ pos 0
 
 abbrev pub repricing_addition : ℕ → ℤ → ℤ → ℤ → ℤ
 repricing_addition q h repriced last = pos q *ℤ h *ℤ (repriced -ℤ last)
@@ -47,7 +47,7 @@ total_margin sum = cond (int_lt (pos 0) sum) (pos 0) sum
 
 pub record Capped (sum r : ℤ) : Type 0 where
   pub at_most : r ≤ℤ sum
-  pub never-positive : r ≤ℤ pos 0
+  pub never_positive : r ≤ℤ pos 0
 
 -- by the day's price and the lots now, the last price and the lots at the last close, and the lots and the cost of the
 -- day's trades, a buy positive and a sell negative

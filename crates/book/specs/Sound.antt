@@ -27,12 +27,12 @@ pub record Room (x : Account) (c : ℕ) (n : ℤ) : Type 0 where
 
 -- what the questions of a trade, answered yes, leave for its sums
 pub record Ready (t : Tables) (buyer seller c : ℕ) (n p : ℤ) : Type 0 where
-  pub buyer-known : buyer < 32
-  pub seller-known : seller < 32
+  pub buyer_known : buyer < 32
+  pub seller_known : seller < 32
   pub apart : buyer ≡ seller → ⊥
-  pub class-known : c < 12
-  pub lots-small : unsigned_abs n ≤ 1000
-  pub price-small : unsigned_abs p ≤ 100000
+  pub class_known : c < 12
+  pub lots_small : unsigned_abs n ≤ 1000
+  pub price_small : unsigned_abs p ≤ 100000
   pub more : t.accepted < 100000
-  pub buyer-room : unsigned_abs (at (account_of t buyer).lots c +ℤ n) ≤ 1000
-  pub seller-room : unsigned_abs (at (account_of t seller).lots c +ℤ neg_ℤ n) ≤ 1000
+  pub buyer_room : unsigned_abs (at (account_of t buyer).lots c +ℤ n) ≤ 1000
+  pub seller_room : unsigned_abs (at (account_of t seller).lots c +ℤ neg_ℤ n) ≤ 1000

@@ -60,8 +60,8 @@ pub record Figures : Type 0 where
   -- the cascading pays 8,400
   pub parts : parts_pay weekday_baseload cascading 0 ≡ pos 8400
   -- price −100, interval 500, quantity 720, two lots; price 3, interval 1, quantity 50, one lot
-  pub margin-below : class_margin (negsuc 99) 500 720 (pos 2) ≡ negsuc 7199
-  pub margin-rounded : class_margin (pos 3) 1 50 (pos 1) ≡ negsuc 0
+  pub margin_below : class_margin (negsuc 99) 500 720 (pos 2) ≡ negsuc 7199
+  pub margin_rounded : class_margin (pos 3) 1 50 (pos 1) ≡ negsuc 0
   -- the final settlement at 6,500 goes by the last price, and April has 720 hours
   pub april : quantity_now weekday_baseload settling 10 ≡ 720
   pub settled : settle_pay weekday_baseload settling (pos 6500) 0 ≡ negsuc 1079999

@@ -24,6 +24,6 @@ peakload_terms opens = power opens peakload false
 
 -- all three products, over the same open days
 pub record AllProducts (opens : ℕ → Bool) : Type 0 where
-  pub baseload-law : LawHolds (baseload_terms opens)
-  pub peakload-law : LawHolds (peakload_terms opens)
-  pub wheat-law : LawHolds (wheat opens)
+  pub baseload_law : LawHolds (baseload_terms opens)
+  pub peakload_law : LawHolds (peakload_terms opens)
+  pub wheat_law : LawHolds (wheat opens)

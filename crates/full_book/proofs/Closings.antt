@@ -43,8 +43,8 @@ module _ (w : Meaning) (law : Laws w) (t : Tables) where
       all_same t.count _ _ (λ a h. limit_is w law (view t) t.prices (λ c. refl) (λ c. refl) (λ c. refl) a (account_of t a).lots (account_of t a).traded (account_of t a).cost (λ c. refl) (λ c. refl) (λ c. refl))
 
   -- where the questions are answered yes, all lots on the next open day are small
-  pub lots-small : (room a c : ℕ) → may_close today t w.settling room ≡ None → a < t.count → nat_abs (at (moved_lots today (account_of t a).lots) c) ≤ 1000
-  lots-small room a c q h =
+  pub lots_small : (room a c : ℕ) → may_close today t w.settling room ≡ None → a < t.count → nat_abs (at (moved_lots today (account_of t a).lots) c) ≤ 1000
+  lots_small room a c q h =
       let q1 = ask-none (leb t.count room) _ _ q in
       let q2 = ask-none (all_priced today t.prices) _ _ q1.1 in
       let q3 = ask-none (cond today.taken_over (not (is_some (prices_of t w.settling).last)) true) _ _ q2.1 in
@@ -95,7 +95,7 @@ module _ (w : Meaning) (law : Laws w) (t : Tables) where
         paid-small u r h a c l =
             let e = h ∙ sym (moved _ (paid_tables t (at pays)) t r) in
             let m : a < t.count = subst (λ (v : Tables). a < v.count) e l in
-            subst (λ xs. nat_abs (at (moved_lots today xs) c) ≤ 1000) (sym (ap (λ (v : Tables). (account_of v a).lots) e ∙ paid-lots (at pays) a m)) (lots-small (length list) a c q m)
+            subst (λ xs. nat_abs (at (moved_lots today xs) c) ≤ 1000) (sym (ap (λ (v : Tables). (account_of v a).lots) e ∙ paid-lots (at pays) a m)) (lots_small (length list) a c q m)
 
         carried-is : (f : ℕ → ℤ) → carried_by today (paid_tables t f) ≡ carried_tables w (view t) (paid_tables t f)
         carried-is f = λ i. record {

@@ -46,12 +46,12 @@ module _ (t : Tables) (b s c : ℕ) (n p : ℤ) (ready : Ready t b s c n p) (tra
   pub trades-kept : SmallTrades (traded_tables t b s c n p)
   trades-kept a k =
       let e : 1000 * (t.accepted + 1) ≡ 1000 * t.accepted + 1000 = omega arith in
-      rw e (by-account (λ x. nat_abs (at x.traded k) ≤ 1000 * t.accepted + 1000) t b s c n p (λ a. omega (arith, trades a k)) (row_more _ c k n _ 1000 (λ k. trades b k) ready.lots-small) (row_more _ c k (neg_ℤ n) _ 1000 (λ k. trades s k) (negated n 1000 ready.lots-small)) a)
+      rw e (by-account (λ x. nat_abs (at x.traded k) ≤ 1000 * t.accepted + 1000) t b s c n p (λ a. omega (arith, trades a k)) (row_more _ c k n _ 1000 (λ k. trades b k) ready.lots_small) (row_more _ c k (neg_ℤ n) _ 1000 (λ k. trades s k) (negated n 1000 ready.lots_small)) a)
 
   pub costs-kept : SmallCosts (traded_tables t b s c n p)
   costs-kept a k =
       let e : 100000000 * (t.accepted + 1) ≡ 100000000 * t.accepted + 100000000 = omega arith in
-      rw e (by-account (λ x. nat_abs (at x.cost k) ≤ 100000000 * t.accepted + 100000000) t b s c n p (λ a. omega (arith, costs a k)) (row_more _ c k (n *ℤ p) _ 100000000 (λ k. costs b k) (product_le n p 1000 100000 ready.lots-small ready.price-small)) (row_more _ c k (neg_ℤ n *ℤ p) _ 100000000 (λ k. costs s k) (product_le (neg_ℤ n) p 1000 100000 (negated n 1000 ready.lots-small) ready.price-small)) a)
+      rw e (by-account (λ x. nat_abs (at x.cost k) ≤ 100000000 * t.accepted + 100000000) t b s c n p (λ a. omega (arith, costs a k)) (row_more _ c k (n *ℤ p) _ 100000000 (λ k. costs b k) (product_le n p 1000 100000 ready.lots_small ready.price_small)) (row_more _ c k (neg_ℤ n *ℤ p) _ 100000000 (λ k. costs s k) (product_le (neg_ℤ n) p 1000 100000 (negated n 1000 ready.lots_small) ready.price_small)) a)
 
   -- a book's tables stay sound
   pub sound-kept : (u : Tables) → u ≡ traded_tables t b s c n p → Counted t → Widths t → Lined t → Sound u

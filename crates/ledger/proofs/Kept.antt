@@ -127,14 +127,14 @@ over c b v t e = omega (arith, ints)
 
 pub kept-ledger : (w : Meaning) → Laws w → (start : ℕ) (h : History) (s : State) → day_after w start h ≡ s.day → lasts w start h ≡ s.last → Kept w (figures_of w start h) s → Ledger w start h s
 kept-ledger w law start h s today last k = record {
-  lots-balance = k.lots-nil;
-  cash-balances =
+  lots_balance = k.lots-nil;
+  cash_balances =
       all_nil (sum_z n s.cash) (sum_z n F.booked) (sum_z n (worth w s)) (sum_z n (finals w F))
       (sym (sum-add n s.cash F.booked) ∙ sum_same n (λ a. s.cash a +ℤ F.booked a) (λ a. worth w s a +ℤ finals w F a) (λ a _. k.value a) ∙ sum-add n (worth w s) (finals w F))
       k.booked-nil (worths-nil w F s k) (finals-nil w n F k.net-nil);
-  open-months = λ a m l e. held-is a m ∙ k.open-held a m e;
-  settled-months = λ a m f l e. held-is a m ∙ past-empty w law s F k m (k.past m f e) a;
-  cash-explained = λ a l. over (s.cash a) (F.booked a) (worth w s a) (finals w F a) (k.value a) ∙ (λ i. worth-is a i +ℤ finals-are w start h s a i -ℤ F.booked a);
+  open_months = λ a m l e. held-is a m ∙ k.open-held a m e;
+  settled_months = λ a m f l e. held-is a m ∙ past-empty w law s F k m (k.past m f e) a;
+  cash_explained = λ a l. over (s.cash a) (F.booked a) (worth w s a) (finals w F a) (k.value a) ∙ (λ i. worth-is a i +ℤ finals-are w start h s a i -ℤ F.booked a);
 }
   where
     n : ℕ

@@ -33,14 +33,14 @@ module _ (w : Meaning) (start : ℕ) (h : History) (s : State) where
   -- The law of the ledger.
   pub record Ledger : Type 0 where
     -- over all accounts, the lots in each class sum to zero, and so does the cash
-    pub lots-balance : (c : ℕ) → sum_z s.accounts (λ a. s.lots a c) ≡ pos 0
-    pub cash-balances : sum_z s.accounts s.cash ≡ pos 0
+    pub lots_balance : (c : ℕ) → sum_z s.accounts (λ a. s.lots a c) ≡ pos 0
+    pub cash_balances : sum_z s.accounts s.cash ≡ pos 0
     -- in a month not finally settled an account holds its accepted buys less its accepted sells of it
-    pub open-months : (a m : ℕ) → a < s.accounts → final w start h m ≡ None → held a m ≡ net w start h a m
+    pub open_months : (a m : ℕ) → a < s.accounts → final w start h m ≡ None → held a m ≡ net w start h a m
     -- in a settled month it holds nothing
-    pub settled-months : (a m : ℕ) (f : ℤ) → a < s.accounts → final w start h m ≡ Some f → held a m ≡ pos 0
+    pub settled_months : (a m : ℕ) (f : ℤ) → a < s.accounts → final w start h m ≡ Some f → held a m ≡ pos 0
     -- its cash is its holdings at last prices, plus its settled months at final prices, less its trades at cost
-    pub cash-explained : (a : ℕ) → a < s.accounts → s.cash a ≡ at_last a +ℤ at_final a -ℤ booked w start h a
+    pub cash_explained : (a : ℕ) → a < s.accounts → s.cash a ≡ at_last a +ℤ at_final a -ℤ booked w start h a
 
   -- The book has the accounts that it was made with, and its day and its prices are those that its history tells.
   pub record Agrees (accounts : ℕ) : Type 0 where

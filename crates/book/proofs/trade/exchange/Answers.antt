@@ -11,8 +11,8 @@ take_at-requires c =
     let r = c.requires.0 in
     let n : to_z w32 (of_z w32 c.args.lots) ≡ c.args.lots = to_z-of_z w32 c.args.lots c.ranges.lots in
     record {
-      in_range = (r.buyer-known, (r.class-known, (omega (arith, ints, r.lots-small), omega (arith, ints, r.price-small))));
-      room = subst (λ (z : ℤ). Room (account_of t c.args.buyer) c.args.class z) (sym n) (room t _ _ _ _ _ r c.requires.1.0 c.requires.1.1 c.args.buyer c.args.lots r.buyer-room);
+      in_range = (r.buyer_known, (r.class_known, (omega (arith, ints, r.lots_small), omega (arith, ints, r.price_small))));
+      room = subst (λ (z : ℤ). Room (account_of t c.args.buyer) c.args.class z) (sym n) (room t _ _ _ _ _ r c.requires.1.0 c.requires.1.1 c.args.buyer c.args.lots r.buyer_room);
     }
 
 pub take_at-requires-2 : goal.take_at-requires-2
@@ -21,8 +21,8 @@ take_at-requires-2 c =
     let r = c.requires.0 in
     let g : to_z w32 (of_z w32 c.negative-sold.result) ≡ neg_ℤ c.args.lots = omega (arith, ints) in
     record {
-      in_range = (r.seller-known, (r.class-known, (omega (arith, ints), omega (arith, ints, r.price-small))));
-      room = room-kept t _ t c.args.buyer c.args.seller c.args.class c.args.lots c.args.price _ _ _ c.args.price r.apart c.take_at.ensures (room t _ _ _ _ _ r c.requires.1.0 c.requires.1.1 c.args.seller (neg_ℤ c.args.lots) r.seller-room) g;
+      in_range = (r.seller_known, (r.class_known, (omega (arith, ints), omega (arith, ints, r.price_small))));
+      room = room-kept t _ t c.args.buyer c.args.seller c.args.class c.args.lots c.args.price _ _ _ c.args.price r.apart c.take_at.ensures (room t _ _ _ _ _ r c.requires.1.0 c.requires.1.1 c.args.seller (neg_ℤ c.args.lots) r.seller_room) g;
     }
 
 pub returns : goal.returns

@@ -8,7 +8,7 @@ pub returns : goal.returns
 returns g c =
     let lawful = g.met.C.Calendar.lawful c.args.calendar.now in
     record {
-      baseload-law = tables-stand _ (power-laws _ _ _ lawful baseload-bounded);
-      peakload-law = tables-stand _ (power-laws _ _ _ lawful peakload-bounded);
-      wheat-law = tables-stand _ (wheat-laws _ lawful);
+      baseload_law = tables-stand _ (power-laws _ _ _ lawful baseload-bounded);
+      peakload_law = tables-stand _ (power-laws _ _ _ lawful peakload-bounded);
+      wheat_law = tables-stand _ (wheat-laws _ lawful);
     }

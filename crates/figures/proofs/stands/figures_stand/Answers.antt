@@ -18,8 +18,8 @@ returns c = record {
   last-of-y01 = refl;
   last-of-t01 = refl;
   parts = refl;
-  margin-below = refl;
-  margin-rounded = refl;
+  margin_below = refl;
+  margin_rounded = refl;
   april = refl;
   settled = refl;
 }

@@ -10,15 +10,15 @@ returns g c =
     let n : to_z w32 (of_z w32 c.args.lots) ≡ c.args.lots = to_z-of_z w32 c.args.lots c.ranges.lots in
     record {
       ready = λ _. record {
-        buyer-known = search rules;
-        seller-known = search rules;
+        buyer_known = search rules;
+        seller_known = search rules;
         apart = search rules;
-        class-known = search rules;
-        lots-small = search rules;
-        price-small = search rules;
+        class_known = search rules;
+        lots_small = search rules;
+        price_small = search rules;
         more = search rules;
-        buyer-room = subst (λ (z : ℤ). nat_abs (at (account_of t c.args.buyer).lots k +ℤ z) ≤ 1000) n (c.buyer_has_room.ensures.size c.if-not-buyer_has_room.false);
-        seller-room = subst (λ (z : ℤ). nat_abs (at (account_of t c.args.seller).lots k +ℤ neg_ℤ z) ≤ 1000) n (c.seller_has_room.ensures.size c.if-not-seller_has_room.false);
+        buyer_room = subst (λ (z : ℤ). nat_abs (at (account_of t c.args.buyer).lots k +ℤ z) ≤ 1000) n (c.buyer_has_room.ensures.size c.if-not-buyer_has_room.false);
+        seller_room = subst (λ (z : ℤ). nat_abs (at (account_of t c.args.seller).lots k +ℤ neg_ℤ z) ≤ 1000) n (c.seller_has_room.ensures.size c.if-not-seller_has_room.false);
       };
       is = search rules;
     }
