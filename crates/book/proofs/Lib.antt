@@ -1,4 +1,15 @@
 pub mod Known
-pub mod Trades
+pub mod Rows
+pub mod Wholes
+pub mod Views
+pub mod TablesStanding
+pub mod InUse
+pub mod Pays
+pub mod Paid
+pub mod Sounds
+pub mod Settles
+pub mod Closings
+pub mod Replays
 pub mod ClassLines
 pub mod Fresh
+pub mod Trades

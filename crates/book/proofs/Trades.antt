@@ -1,11 +1,13 @@
 -- What a trade does to the tables, account by account. Assumes nothing.
 use Rattle.std.proofs.Common.{◌≡◌, ℕ, zero, suc, ◌+◌, ◌*◌, ◌≤◌, ◌≢◌, ◌⊎◌, List, [], ◌∷◌, get_or, set, ℤ, pos, ◌+ℤ◌, ◌*ℤ◌, neg_ℤ, nat_abs, sym, refl, ap, ◌∙◌, subst, inl, inr, ⊎_elim, arith, length-set, get_or-set_other}
 use Rattle.amounts.proofs.Ring.{product_le}
-use Rattle.book.specs.Sound.{Counted, Widths, Room, Ready, SmallTrades, SmallCosts}
+use Rattle.book.specs.InUse.{Idle}
+use Rattle.book.specs.Sound.{Room, Ready, SmallTrades, SmallCosts, Sound}
 use Rattle.std.proofs.lemmas.Int.{ints}
-use Rattle.ledger.specs.Tables.{account_of, at, took, with_account, traded_tables, no_account}
-use Rattle.ledger.specs.declared.tables.Account.{Account}
-use Rattle.ledger.specs.declared.tables.Tables.{Tables}
+use Rattle.book.specs.Tables.{account_of, took, with_account, traded_tables, no_account}
+use Rattle.ledger.specs.Words.{at}
+use Rattle.book.specs.declared.tables.Account.{Account}
+use Rattle.book.specs.declared.tables.Tables.{Tables}
 
 -- the other accounts stay as they are
 pub other-account : (t : Tables) (a s : ℕ) (x : Account) → (a ≡ s → ⊥) → account_of (with_account t a x) s ≡ account_of t s
@@ -53,10 +55,20 @@ module _ (t : Tables) (b s c : ℕ) (n p : ℤ) (ready : Ready t b s c n p) (tra
       rw e (by-account (λ x. nat_abs (at x.cost k) ≤ 100000000 * t.accepted + 100000000) t b s c n p (λ a. omega (arith, costs a k)) (row_more _ c k (n *ℤ p) _ 100000000 (λ k. costs b k) (product_le n p 1000 100000 ready.lots_small ready.price_small)) (row_more _ c k (neg_ℤ n *ℤ p) _ 100000000 (λ k. costs s k) (product_le (neg_ℤ n) p 1000 100000 (negated n 1000 ready.lots_small) ready.price_small)) a)
 
   -- a book's tables stay sound
-  pub sound-kept : (u : Tables) → u ≡ traded_tables t b s c n p → Counted t → Widths t → Counted u × (Widths u × (SmallTrades u × (SmallCosts u × Unit {0})))
-  sound-kept u e counted widths =
-      subst (λ (u : Tables). Counted u × (Widths u × (SmallTrades u × (SmallCosts u × Unit {0})))) (sym e)
-      ((counted.0, counted.1, omega (arith, ready.more)), ((simp length-set widths.0, widths.1, widths.2), (trades-kept, (costs-kept, tt))))
+  pub sound-kept : (m : ℕ) (u : Tables) → u ≡ traded_tables t b s c n p → Sound m t → Sound m u
+  sound-kept m u e sound =
+      subst (Sound m) (sym e)
+      (record {
+        counted = (sound.counted.0, sound.counted.1, omega (arith, ready.more));
+        widths = (simp length-set sound.widths.0, sound.widths.1, sound.widths.2);
+        trades = trades-kept;
+        costs = costs-kept;
+        lined = sound.lined;
+        idle = λ a past h.
+            let ns : a ≢ s = λ q. omega (arith, ready.seller_in_use) in
+            let nb : a ≢ b = λ q. omega (arith, ready.buyer_in_use) in
+            subst Idle (sym (get_or-set_other (set t.accounts b (took (account_of t b) c n p)) s a _ no_account ns ∙ get_or-set_other t.accounts b a _ no_account nb)) (sound.idle a past h);
+      })
 
 -- the tables with one accepted trade more
 abbrev pub raised : Tables → Tables

@@ -1,3 +1,9 @@
+pub mod Tables
+pub mod TablesLaw
+pub mod InUse
 pub mod Sound
+pub mod Paying
+pub mod Settling
+pub mod Closes
 pub mod Replies
 pub mod Lines

@@ -1,8 +1,8 @@
 // What a book is.
 ghost use Rattle.std.specs.Prelude.{◌≤◌};
-ghost use Rattle.book.specs.Sound.{Counted, SmallTrades, SmallCosts, Widths};
+ghost use Rattle.book.specs.Sound.{Sound};
 
-use ledger::Tables;
+use crate::tables::Tables;
 use terms::Terms;
 
 // A book over terms: its tables, which its calls alone change.
@@ -10,8 +10,5 @@ use terms::Terms;
 pub struct Book<T: Terms> {
     pub(crate) terms: T,
     pub(crate) tables: Tables,
-    ghost counted: { Counted tables },
-    ghost widths: { Widths tables },
-    ghost trades: { SmallTrades tables },
-    ghost costs: { SmallCosts tables },
+    ghost sound: { Sound (T.meaning terms).classes tables },
 }

@@ -1,13 +1,15 @@
 // Make: a new book.
-ghost use Rattle.std.specs.Prelude.{◌≡◌, ℕ, ◌-◌, ◌≤◌, true, ◌++◌, length, replicate, Some, None, MatchResult};
+ghost use Rattle.std.specs.Prelude.{◌≡◌, ◌≤◌, true, [], length, IfOk, Some, None, Ok, MatchResult};
 ghost use Rattle.ledger.specs.Make.{lines_fit, make_refusal};
 ghost use Rattle.book.specs.Lines.{line_fits};
-ghost use Rattle.ledger.specs.State.{start_day};
-ghost use Rattle.ledger.specs.Tables.{empty_account, no_prices, filled as filled_with, made_tables};
+ghost use Rattle.book.specs.Replies.{reply};
+ghost use Rattle.book.specs.Tables.{filled as filled_with, made_tables};
+ghost use Rattle.book.specs.TablesLaw.{Life};
 
 use crate::book::Book;
+use crate::tables::{Account, Tables};
 use coded::ClassLine;
-use ledger::{Account, ClassPrices, Fault, Tables};
+use ledger::{ClassPrices, Fault};
 use terms::{Terms, TermsOpenDays};
 
 const NO_LINE: ClassLine = ClassLine {
@@ -28,51 +30,47 @@ fn lines_fit(classes: u32, lines: &[ClassLine]) -> bool
     ensures is { result ≡ lines_fit 0 classes lines.now }
     ensures few { result ≡ true → length lines.now ≤ 12 }
 {
-    if lines.len() > 12 {
+    if lines.len() != classes as usize {
         return false;
     }
-    let mut class = 0;
-    for line in lines {
-        if !line_fits(line, class) {
+    for (class, line) in lines.iter().enumerate() {
+        if !line_fits(line, class as u32) {
             return false;
         }
-        class += 1;
     }
-    class == classes
+    true
 }
 
 // The class lines, and lines that are none up to twelve.
 fn filled(lines: &[ClassLine]) -> [ClassLine; 12]
     requires { length lines.now ≤ 12 }
-    ensures is { result ≡ filled_with lines.now }
+    ensures { result ≡ filled_with lines.now }
 {
     let mut all = [NO_LINE; 12];
-    for (i, line) in lines.iter().enumerate() {
-        all[i] = *line;
-    }
+    all[..lines.len()].copy_from_slice(lines);
     all
 }
 
-// The first question of make that is answered no.
-fn make_refused<T: Terms>(
+// The questions of make.
+fn may_make<T: Terms>(
     terms: &T,
     month: u32,
     accounts: u32,
     lines: &[ClassLine],
-) -> Option<Fault>
-    ensures is { result ≡ make_refusal (T.meaning terms.now) month accounts lines.now }
-    ensures fits { result ≡ None → (2 ≤ accounts) × (accounts ≤ 32) × (length lines.now ≤ 12) }
+) -> Result<(), Fault>
+    ensures is { result ≡ reply (make_refusal (T.meaning terms.now) month accounts lines.now) tt }
+    ensures few { result ≡ Ok tt → length lines.now ≤ 12 }
 {
     if accounts < 2 || accounts > 32 {
-        return Some(Fault::AccountCount);
+        return Err(Fault::AccountCount);
     }
     if month < 12 || month > 1163 {
-        return Some(Fault::StartMonth);
+        return Err(Fault::StartMonth);
     }
     if !lines_fit(terms.classes(), lines) {
-        return Some(Fault::ClassLines);
+        return Err(Fault::ClassLines);
     }
-    None
+    Ok(())
 }
 
 // A new book's tables.
@@ -117,9 +115,10 @@ impl<T: Terms> Book<T> {
         accounts: u32,
         lines: &[ClassLine],
     ) -> Result<Book<T>, NotMade<T>>
-        ensures { MatchResult result (λ b. (make_refusal (T.meaning terms) month accounts lines.now ≡ None) × (b.terms ≡ terms) × (b.tables ≡ made_tables (T.meaning terms) month accounts lines.now)) (λ e. (make_refusal (T.meaning terms) month accounts lines.now ≡ Some e.fault) × (e.terms ≡ terms)) }
+        ensures answer { MatchResult result (λ b. (make_refusal (T.meaning terms) month accounts lines.now ≡ None) × (b.terms ≡ terms) × (b.tables ≡ made_tables (T.meaning terms) month accounts lines.now)) (λ e. (make_refusal (T.meaning terms) month accounts lines.now ≡ Some e.fault) × (e.terms ≡ terms)) }
+        ensures life { IfOk result (λ b. Life (T.meaning terms) month accounts lines.now [] b.tables) }
     {
-        if let Some(fault) = make_refused(&terms, month, accounts, lines) {
+        if let Err(fault) = may_make(&terms, month, accounts, lines) {
             return Err(NotMade { fault, terms });
         }
         let tables = fresh(&terms, month, accounts, lines);

@@ -1,8 +1,9 @@
 // Mark and reprice: the prices that a caller sets.
-ghost use Rattle.std.specs.Prelude.{◌≡◌, ◌<◌, ◌≤◌, true, not, ◌&&◌, is_some, None, nat_lt, unsigned_abs};
+ghost use Rattle.std.specs.Prelude.{◌≡◌, ◌<◌, ◌≤◌, true, not, ◌&&◌, is_some, Ok, nat_lt, unsigned_abs};
 ghost use Rattle.book.specs.Replies.{reply};
 ghost use Rattle.ledger.specs.Calls.{price_fits, mark_refusal, reprice_refusal};
-ghost use Rattle.ledger.specs.Tables.{view, after_tables};
+ghost use Rattle.book.specs.Tables.{view, after_tables};
+ghost use Rattle.book.specs.TablesLaw.{LivesOn};
 ghost use Rattle.ledger.specs.declared.call.Call.TheVariants.{Mark, Reprice};
 ghost use Rattle.terms.specs.Meaning.{tradable};
 
@@ -23,37 +24,33 @@ impl<T: Terms> Book<T> {
         ensures is { result ≡ tradable ((T.meaning self.now.terms).on self.now.tables.day class) }
         ensures known { result ≡ true → class < 12 }
     {
-        match self.terms.class_on(self.tables.day, class) {
-            Some(here) => here.tradable,
-            None => false,
-        }
+        self.terms
+            .class_on(self.tables.day, class)
+            .is_some_and(|here| here.tradable)
     }
 
-    fn mark_refused(&self, class: u32, price: i32) -> Option<Fault>
-        ensures is { result ≡ mark_refusal (T.meaning self.now.terms) (view self.now.tables) class price }
-        ensures known { result ≡ None → class < 12 }
+    fn may_mark(&self, class: u32, price: i32) -> Result<(), Fault>
+        ensures is { result ≡ reply (mark_refusal (T.meaning self.now.terms) (view self.now.tables) class price) tt }
+        ensures known { result ≡ Ok tt → class < 12 }
     {
         if !self.is_tradable(class) {
-            return Some(Fault::NotTradable);
+            return Err(Fault::NotTradable);
         }
         if !price_fits(price) {
-            return Some(Fault::PriceOutOfRange);
+            return Err(Fault::PriceOutOfRange);
         }
-        None
+        Ok(())
     }
-}
 
-impl<T: Terms> Book<T> {
     // The day's price of a tradable class; a later mark replaces an earlier one.
     pub fn mark(&mut self, class: u32, price: i32) -> Result<(), Fault>
         ensures answer { result ≡ reply (mark_refusal (T.meaning self.old.terms) (view self.old.tables) class price) tt }
         ensures after { self.new.tables ≡ after_tables (T.meaning self.old.terms) self.old.tables (Mark class price) }
         ensures terms { self.new.terms ≡ self.old.terms }
+        ensures life { LivesOn (T.meaning self.old.terms) self.old.tables (Mark class price) self.new.tables }
     {
-        if let Some(fault) = self.mark_refused(class, price) {
-            return Err(fault);
-        }
-        self.tables.prices[class as usize].today = Some(price);
+        self.may_mark(class, price)?;
+        self.tables.prices[class as usize].mark(price);
         Ok(())
     }
 }
@@ -70,17 +67,17 @@ impl<T: Terms> Book<T> {
             && self.tables.prices[class as usize].last.is_some()
     }
 
-    fn reprice_refused(&self, class: u32, price: i32) -> Option<Fault>
-        ensures is { result ≡ reprice_refusal (T.meaning self.now.terms) (view self.now.tables) class price }
-        ensures known { result ≡ None → class < 12 }
+    fn may_reprice(&self, class: u32, price: i32) -> Result<(), Fault>
+        ensures is { result ≡ reply (reprice_refusal (T.meaning self.now.terms) (view self.now.tables) class price) tt }
+        ensures known { result ≡ Ok tt → class < 12 }
     {
         if !self.is_repriceable(class) {
-            return Some(Fault::NotRepriceable);
+            return Err(Fault::NotRepriceable);
         }
         if !price_fits(price) {
-            return Some(Fault::PriceOutOfRange);
+            return Err(Fault::PriceOutOfRange);
         }
-        None
+        Ok(())
     }
 
     // A new price of a delivery class, for margins only.
@@ -88,11 +85,10 @@ impl<T: Terms> Book<T> {
         ensures answer { result ≡ reply (reprice_refusal (T.meaning self.old.terms) (view self.old.tables) class price) tt }
         ensures after { self.new.tables ≡ after_tables (T.meaning self.old.terms) self.old.tables (Reprice class price) }
         ensures terms { self.new.terms ≡ self.old.terms }
+        ensures life { LivesOn (T.meaning self.old.terms) self.old.tables (Reprice class price) self.new.tables }
     {
-        if let Some(fault) = self.reprice_refused(class, price) {
-            return Err(fault);
-        }
-        self.tables.prices[class as usize].repriced = Some(price);
+        self.may_reprice(class, price)?;
+        self.tables.prices[class as usize].reprice(price);
         Ok(())
     }
 }

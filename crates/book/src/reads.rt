@@ -1,19 +1,46 @@
-// The calls that only ask: holding, cash, day.
-ghost use Rattle.std.specs.Prelude.{◌≡◌};
+// The calls that only ask: holding, cash, day; and what the book was made over and has for last prices.
+ghost use Rattle.std.specs.Prelude.{◌≡◌, ◌<◌};
 ghost use Rattle.book.specs.Replies.{reply};
 ghost use Rattle.ledger.specs.Calls.{known as known_in};
 ghost use Rattle.ledger.specs.Questions.{holding_refusal, holding as holding_of, cash_refusal, cash as cash_of};
-ghost use Rattle.ledger.specs.Tables.{view};
+ghost use Rattle.book.specs.Tables.{prices_of, view};
 
 use crate::book::Book;
+use crate::tables::Tables;
 use ledger::Fault;
 use terms::Terms;
+
+impl Tables {
+    fn last_price(&self, class: u32) -> Option<i32>
+        requires { class < 12 }
+        ensures { result ≡ (prices_of self.now class).last }
+    {
+        self.prices[class as usize].last
+    }
+}
 
 impl<T: Terms> Book<T> {
     pub(crate) fn known(&self, account: u32) -> bool
         ensures { result ≡ known_in (view self.now.tables) account }
     {
         account < self.tables.count
+    }
+
+    // The terms that the book was made over.
+    pub fn terms(&self) -> &T
+        ensures { result.now ≡ self.now.terms }
+    {
+        &self.terms
+    }
+
+    // The last price of a class; a class that is none has none.
+    pub fn last_price(&self, class: u32) -> Option<i32>
+        ensures { result ≡ (view self.now.tables).last class }
+    {
+        if class >= 12 {
+            return None;
+        }
+        self.tables.last_price(class)
     }
 
     // The day of the book.

@@ -1,55 +1,25 @@
 // Trade: lots go from a seller to a buyer.
-ghost use Rattle.std.specs.Prelude.{◌≡◌, ℕ, ◌+◌, ◌*◌, ◌<◌, ◌≤◌, true, ◌&&◌, ℤ, pos, negsuc, ◌+ℤ◌, ◌-ℤ◌, ◌*ℤ◌, neg_ℤ, None, unsigned_abs};
+ghost use Rattle.std.specs.Prelude.{◌≡◌, ◌<◌, ◌≤◌, true, pos, negsuc, ◌+ℤ◌, ◌*ℤ◌, neg_ℤ, Ok, unsigned_abs};
 ghost use Rattle.book.specs.Replies.{reply};
 ghost use Rattle.book.specs.Sound.{Room, Ready, SmallTrades, SmallCosts};
-ghost use Rattle.ledger.specs.Calls.{lots_fit, trade_refusal};
-ghost use Rattle.ledger.specs.Tables.{view, account_of, at, took, with_account, traded_tables, after_tables};
-ghost use Rattle.ledger.specs.Words.{within};
+ghost use Rattle.book.specs.Tables.{view, account_of, took, with_account, traded_tables, after_tables};
+ghost use Rattle.book.specs.TablesLaw.{LivesOn};
+ghost use Rattle.ledger.specs.Calls.{trade_refusal};
+ghost use Rattle.ledger.specs.Words.{within, at};
 ghost use Rattle.ledger.specs.declared.call.Call.TheVariants.{Trade};
 
 use crate::book::Book;
 use crate::mark::price_fits;
-use ledger::{Account, Fault, Tables};
+use crate::tables::{Account, Tables};
+use ledger::Fault;
 use terms::Terms;
 
-// How many lots an account may hold in a class, long or short.
-const LIMIT: i64 = 1000;
-
-fn within_limit(lots: i64) -> bool
-    ensures is { result ≡ within (negsuc 999) (pos 1000) lots }
-    ensures size { result ≡ true → unsigned_abs lots ≤ 1000 }
+fn within_limit(limit: u16, lots: i64) -> bool
+    ensures is { result ≡ within (neg_ℤ (pos limit)) (pos limit) lots }
+    ensures size { result ≡ true → unsigned_abs lots ≤ limit }
 {
-    lots >= -LIMIT && lots <= LIMIT
-}
-
-fn sum(lots: i32, more: i32) -> i64
-    ensures { result ≡ lots +ℤ more }
-{
-    i64::from(lots) + i64::from(more)
-}
-
-fn difference(lots: i32, less: i32) -> i64
-    ensures { result ≡ lots -ℤ less }
-{
-    i64::from(lots) - i64::from(less)
-}
-
-// Whether the buyer of lots of a class stays within the limit.
-fn buyer_has_room(tables: &Tables, buyer: u32, class: u32, lots: i32) -> bool
-    requires { (buyer < 32) × (class < 12) }
-    ensures is { result ≡ lots_fit (view tables.now) buyer ((view tables.now).lots buyer class +ℤ lots) }
-    ensures size { result ≡ true → unsigned_abs (at (account_of tables.now buyer).lots class +ℤ lots) ≤ 1000 }
-{
-    within_limit(sum(tables.accounts[buyer as usize].lots[class as usize], lots))
-}
-
-// Whether their seller does.
-fn seller_has_room(tables: &Tables, seller: u32, class: u32, lots: i32) -> bool
-    requires { (seller < 32) × (class < 12) }
-    ensures is { result ≡ lots_fit (view tables.now) seller ((view tables.now).lots seller class -ℤ lots) }
-    ensures size { result ≡ true → unsigned_abs (at (account_of tables.now seller).lots class +ℤ neg_ℤ lots) ≤ 1000 }
-{
-    within_limit(difference(tables.accounts[seller as usize].lots[class as usize], lots))
+    let limit = i64::from(limit);
+    lots >= -limit && lots <= limit
 }
 
 // Whether lots of one trade lie in the range.
@@ -60,47 +30,12 @@ fn lots_fit(lots: i32) -> bool
     lots >= 1 && lots <= 1000
 }
 
-impl<T: Terms> Book<T> {
-    fn trade_refused(
-        &self,
-        buyer: u32,
-        seller: u32,
-        class: u32,
-        lots: i32,
-        price: i32,
-    ) -> Option<Fault>
-        ensures ready { result ≡ None → Ready self.now.tables buyer seller class lots price }
-        ensures is { result ≡ trade_refusal (T.meaning self.now.terms) (view self.now.tables) buyer seller class lots price }
-    {
-        if !self.known(buyer) {
-            return Some(Fault::UnknownAccount);
-        }
-        if !self.known(seller) {
-            return Some(Fault::UnknownAccount);
-        }
-        if buyer == seller {
-            return Some(Fault::SameAccount);
-        }
-        if !self.is_tradable(class) {
-            return Some(Fault::NotTradable);
-        }
-        if !lots_fit(lots) {
-            return Some(Fault::LotsOutOfRange);
-        }
-        if !price_fits(price) {
-            return Some(Fault::PriceOutOfRange);
-        }
-        if self.tables.accepted >= 100_000 {
-            return Some(Fault::TooManyTrades);
-        }
-        if !buyer_has_room(&self.tables, buyer, class, lots) {
-            return Some(Fault::HoldingOutOfRange);
-        }
-        if !seller_has_room(&self.tables, seller, class, lots) {
-            return Some(Fault::HoldingOutOfRange);
-        }
-        None
-    }
+fn negative(lots: i32) -> i32
+    requires { unsigned_abs lots ≤ 1000 }
+    ensures is { result ≡ neg_ℤ lots }
+    ensures size { unsigned_abs result ≤ 1000 }
+{
+    -lots
 }
 
 // What lots cost at a price.
@@ -110,6 +45,12 @@ fn cost_of(lots: i32, price: i32) -> i64
     ensures bound { unsigned_abs result ≤ 100000000 }
 {
     i64::from(lots) * i64::from(price)
+}
+
+fn sum(lots: i32, more: i32) -> i64
+    ensures { result ≡ lots +ℤ more }
+{
+    i64::from(lots) + i64::from(more)
 }
 
 fn more_lots(lots: i32, more: i32) -> i32
@@ -126,46 +67,94 @@ fn more_cost(cost: i64, more: i64) -> i64
     cost + more
 }
 
-// An account takes lots of a class at a price; they are negative for a sale.
-fn take(account: &mut Account, class: u32, lots: i32, price: i32)
-    requires in_range { (class < 12) × ((unsigned_abs lots ≤ 1000) × (unsigned_abs price ≤ 100000)) }
-    requires room { Room account.old class lots }
-    ensures { account.new ≡ took account.old class lots price }
-{
-    let cost = cost_of(lots, price);
-    account.lots[class as usize] = more_lots(account.lots[class as usize], lots);
-    account.traded[class as usize] = more_lots(account.traded[class as usize], lots);
-    account.cost[class as usize] = more_cost(account.cost[class as usize], cost);
+impl Account {
+    // Whether the account stays within its limit with lots of a class more; they are negative for a sale.
+    fn may_take(&self, class: u32, lots: i32) -> bool
+        requires { class < 12 }
+        ensures is { result ≡ within (negsuc 999) (pos 1000) (at self.now.lots class +ℤ lots) }
+        ensures size { result ≡ true → unsigned_abs (at self.now.lots class +ℤ lots) ≤ 1000 }
+    {
+        within_limit(self.limit(), sum(self.lots[class as usize], lots))
+    }
+
+    // Takes lots of a class at a price; they are negative for a sale.
+    fn take(&mut self, class: u32, lots: i32, price: i32)
+        requires in_range { (class < 12) × ((unsigned_abs lots ≤ 1000) × (unsigned_abs price ≤ 100000)) }
+        requires room { Room self.old class lots }
+        ensures { self.new ≡ took self.old class lots price }
+    {
+        let cost = cost_of(lots, price);
+        self.lots[class as usize] = more_lots(self.lots[class as usize], lots);
+        self.traded[class as usize] = more_lots(self.traded[class as usize], lots);
+        self.cost[class as usize] = more_cost(self.cost[class as usize], cost);
+    }
 }
 
-fn take_at(tables: &mut Tables, account: u32, class: u32, lots: i32, price: i32)
-    requires in_range { (account < 32) × ((class < 12) × ((unsigned_abs lots ≤ 1000) × (unsigned_abs price ≤ 100000))) }
-    requires room { Room (account_of tables.old account) class lots }
-    ensures { tables.new ≡ with_account tables.old account (took (account_of tables.old account) class lots price) }
-{
-    take(&mut tables.accounts[account as usize], class, lots, price);
-}
+impl Tables {
+    // One account takes lots.
+    fn take(&mut self, account: u32, class: u32, lots: i32, price: i32)
+        requires in_range { (account < 32) × ((class < 12) × ((unsigned_abs lots ≤ 1000) × (unsigned_abs price ≤ 100000))) }
+        requires room { Room (account_of self.old account) class lots }
+        ensures { self.new ≡ with_account self.old account (took (account_of self.old account) class lots price) }
+    {
+        self.accounts[account as usize].take(class, lots, price);
+    }
 
-fn negative(lots: i32) -> i32
-    requires { unsigned_abs lots ≤ 1000 }
-    ensures is { result ≡ neg_ℤ lots }
-    ensures size { unsigned_abs result ≤ 1000 }
-{
-    -lots
-}
-
-// A trade whose questions were all answered yes.
-fn exchange(tables: &mut Tables, buyer: u32, seller: u32, class: u32, lots: i32, price: i32)
-    requires { (Ready tables.old buyer seller class lots price) × ((SmallTrades tables.old) × (SmallCosts tables.old)) }
-    ensures { tables.new ≡ traded_tables tables.old buyer seller class lots price }
-{
-    let sold = negative(lots);
-    take_at(tables, buyer, class, lots, price);
-    take_at(tables, seller, class, sold, price);
-    tables.accepted += 1;
+    // A trade whose questions were all answered yes.
+    fn exchange(&mut self, buyer: u32, seller: u32, class: u32, lots: i32, price: i32)
+        requires { (Ready self.old buyer seller class lots price) × ((SmallTrades self.old) × (SmallCosts self.old)) }
+        ensures { self.new ≡ traded_tables self.old buyer seller class lots price }
+    {
+        let sold = negative(lots);
+        self.take(buyer, class, lots, price);
+        self.take(seller, class, sold, price);
+        self.accepted += 1;
+    }
 }
 
 impl<T: Terms> Book<T> {
+    fn may_trade(
+        &self,
+        buyer: u32,
+        seller: u32,
+        class: u32,
+        lots: i32,
+        price: i32,
+    ) -> Result<(), Fault>
+        ensures ready { result ≡ Ok tt → Ready self.now.tables buyer seller class lots price }
+        ensures is { result ≡ reply (trade_refusal (T.meaning self.now.terms) (view self.now.tables) buyer seller class lots price) tt }
+    {
+        if !self.known(buyer) {
+            return Err(Fault::UnknownAccount);
+        }
+        if !self.known(seller) {
+            return Err(Fault::UnknownAccount);
+        }
+        if buyer == seller {
+            return Err(Fault::SameAccount);
+        }
+        if !self.is_tradable(class) {
+            return Err(Fault::NotTradable);
+        }
+        if !lots_fit(lots) {
+            return Err(Fault::LotsOutOfRange);
+        }
+        if !price_fits(price) {
+            return Err(Fault::PriceOutOfRange);
+        }
+        if self.tables.accepted >= 100_000 {
+            return Err(Fault::TooManyTrades);
+        }
+        if !self.tables.accounts[buyer as usize].may_take(class, lots) {
+            return Err(Fault::HoldingOutOfRange);
+        }
+        let sold = negative(lots);
+        if !self.tables.accounts[seller as usize].may_take(class, sold) {
+            return Err(Fault::HoldingOutOfRange);
+        }
+        Ok(())
+    }
+
     // Lots of a class go from the seller to the buyer, at a price.
     pub fn trade(
         &mut self,
@@ -178,11 +167,10 @@ impl<T: Terms> Book<T> {
         ensures answer { result ≡ reply (trade_refusal (T.meaning self.old.terms) (view self.old.tables) buyer seller class lots price) tt }
         ensures after { self.new.tables ≡ after_tables (T.meaning self.old.terms) self.old.tables (Trade buyer seller class lots price) }
         ensures terms { self.new.terms ≡ self.old.terms }
+        ensures life { LivesOn (T.meaning self.old.terms) self.old.tables (Trade buyer seller class lots price) self.new.tables }
     {
-        if let Some(fault) = self.trade_refused(buyer, seller, class, lots, price) {
-            return Err(fault);
-        }
-        exchange(&mut self.tables, buyer, seller, class, lots, price);
+        self.may_trade(buyer, seller, class, lots, price)?;
+        self.tables.exchange(buyer, seller, class, lots, price);
         Ok(())
     }
 }

@@ -9,9 +9,8 @@ use Rattle.ledger.proofs.Weights.{source_is}
 use Rattle.ledger.specs.Calls.{lots_fit, newest, variation_pay, part_pay, close_pay, after_parts, source_of}
 use Rattle.ledger.specs.Prices.{prices_at, closed_prices}
 use Rattle.ledger.specs.State.{State, next_day, class_now, quantity_now}
-use Rattle.ledger.specs.Words.{all_below, from, or_zero, within}
-use Rattle.ledger.specs.Tables.{at}
-use Rattle.ledger.specs.declared.tables.ClassPrices.{ClassPrices}
+use Rattle.ledger.specs.Words.{all_below, from, or_zero, within, at}
+use Rattle.ledger.specs.declared.prices.ClassPrices.{ClassPrices}
 use Rattle.std.proofs.lemmas.List.FromFn.{get_or-map-range_with_len, length-map-range_with_len}
 use Rattle.std.proofs.lemmas.List.{get_or_past}
 use Rattle.std.proofs.lemmas.Int.{ints}

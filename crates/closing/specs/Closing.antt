@@ -9,9 +9,8 @@ use Rattle.closing.specs.declared.closing.Closing.{Closing}
 use Rattle.ledger.specs.Calls.{source_below}
 use Rattle.ledger.specs.Prices.{prices_at}
 use Rattle.ledger.specs.State.{next_day}
-use Rattle.ledger.specs.Words.{all_below, from, or_zero, within}
-use Rattle.ledger.specs.Tables.{at}
-use Rattle.ledger.specs.declared.tables.ClassPrices.{ClassPrices}
+use Rattle.ledger.specs.Words.{all_below, from, or_zero, within, at}
+use Rattle.ledger.specs.declared.prices.ClassPrices.{ClassPrices}
 use Rattle.std.specs.List.{range_with_len}
 use Rattle.terms.specs.Laws.{is_taken_over}
 use Rattle.terms.specs.Meaning.{Meaning, tradable, has_some_part, successor, class_quantity}

@@ -3,8 +3,7 @@ ghost use Rattle.std.specs.Prelude.{◌≡◌, ◌*◌, ◌^◌, ◌<◌, ◌≤
 ghost use Rattle.amounts.specs.SumsOfWhole.{sum_z};
 ghost use Rattle.closing.specs.Closing.{newest_by, given_by, after_parts_by, after_parts_lots, moved_by, moved_lots, moved_prices_at, moved_prices, priced_by, all_priced, stays_by, keeps_limit};
 ghost use Rattle.ledger.specs.Prices.{prices_at};
-ghost use Rattle.ledger.specs.Words.{from, within};
-ghost use Rattle.ledger.specs.Tables.{at};
+ghost use Rattle.ledger.specs.Words.{from, within, at};
 
 use crate::closing::Closing;
 use ledger::ClassPrices;

@@ -1,8 +1,8 @@
 -- The law of the ledger for the products: books of Baseload, Peakload and wheat over any calendar. Assumes nothing.
 use Rattle.std.specs.Prelude.{◌≡◌, ℕ, Bool, true, false, List, None}
-use Rattle.full_book.specs.TablesLaw.{ReachedTables, Life}
-use Rattle.full_book.specs.Tables.{made_tables}
-use Rattle.full_book.specs.declared.tables.Tables.{Tables}
+use Rattle.book.specs.TablesLaw.{ReachedTables, Life}
+use Rattle.book.specs.Tables.{made_tables}
+use Rattle.book.specs.declared.tables.Tables.{Tables}
 use Rattle.coded.specs.declared.class_line.ClassLine.{ClassLine}
 use Rattle.ledger.specs.History.{History}
 use Rattle.ledger.specs.Make.{make_refusal}

@@ -11,7 +11,3 @@ pub mod Settling
 pub mod Closing
 pub mod Following
 pub mod Standing
-pub mod Rows
-pub mod Wholes
-pub mod Views
-pub mod TablesStanding

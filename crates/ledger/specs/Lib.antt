@@ -6,6 +6,4 @@ pub mod Make
 pub mod Questions
 pub mod History
 pub mod Ledger
-pub mod Tables
-pub mod TablesLaw
 pub mod Prices

@@ -1,5 +1,5 @@
--- Small words: the first question answered no, ranges, prices that may be missing. Assumes nothing.
-use Rattle.std.specs.Prelude.{ℕ, zero, suc, Bool, true, false, cond, ◌&&◌, ℤ, pos, Some, None, Option, ◌==◌, int_le}
+-- Small words: the first question answered no, ranges, prices that may be missing, places of rows. Assumes nothing.
+use Rattle.std.specs.Prelude.{ℕ, zero, suc, Bool, true, false, cond, ◌&&◌, List, ℤ, pos, Some, None, Option, ◌==◌, int_le, slice_index_or}
 use Rattle.ledger.specs.declared.fault.Fault.{Fault}
 
 -- a question: where it is answered no its fault is the answer, else the questions go on
@@ -32,3 +32,7 @@ from (Some c) d f = f c
 abbrev pub unless : {A : Type 0} → Option Fault → A → A → A
 unless None accepted refused = accepted
 unless (Some f) accepted refused = refused
+
+-- what stands at a place of a row, and 0 past its end
+abbrev pub at : List ℤ → ℕ → ℤ
+at xs c = slice_index_or xs c (pos 0)

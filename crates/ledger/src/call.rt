@@ -1,6 +1,6 @@
 // The calls that change a book, with every input of their methods, wrong values included.
 
-#[derive(Clone, Copy)]
+#[derive(Clone, Copy, PartialEq, Eq, Debug)]
 pub enum Call {
     // Lots of a class go from the seller to the buyer, at a price.
     Trade {

@@ -3,7 +3,7 @@ use crate::call::Call;
 use crate::fault::Fault;
 
 // A call, and the question that was answered no, or none where the call was accepted.
-#[derive(Clone, Copy)]
+#[derive(Clone, Copy, PartialEq, Eq, Debug)]
 pub struct Entry {
     pub call: Call,
     pub answer: Option<Fault>,

@@ -6,11 +6,10 @@ mod fault;
 mod law;
 mod payment;
 mod prices;
-mod tables;
 
 pub use call::Call;
 pub use entry::Entry;
 pub use fault::Fault;
-pub use law::{ledger_stands, tables_stand};
+pub use law::ledger_stands;
 pub use payment::Payment;
-pub use tables::{Account, ClassPrices, Tables};
+pub use prices::ClassPrices;

@@ -1,10 +1,17 @@
-// What the calls make of the prices of one class.
+// The prices of one class, and what the calls make of them.
 ghost use Rattle.std.specs.Prelude.{◌≡◌};
-ghost use Rattle.ledger.specs.Prices.{marked_prices, repriced_prices, settled_prices};
 
-use crate::tables::ClassPrices;
+// Each of the three may be missing.
+#[derive(Clone, Copy, PartialEq, Eq, Debug)]
+pub struct ClassPrices {
+    pub last: Option<i32>,
+    pub today: Option<i32>,
+    pub repriced: Option<i32>,
+}
 
 impl ClassPrices {
+    ghost use Rattle.ledger.specs.Prices.{marked_prices, repriced_prices, settled_prices};
+
     // The day's price; a later one replaces an earlier one.
     pub fn mark(&mut self, price: i32)
         ensures { self.new ≡ marked_prices self.old price }

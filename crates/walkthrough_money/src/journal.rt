@@ -1,6 +1,6 @@
 // A book, with the list of all the calls that it was handed and their answers.
 use coded::ClassLine;
-use full_book::Book;
+use book::Book;
 use ledger::{Call, Entry, Fault};
 use std::alloc::{AllocError, Global};
 use terms::Terms;

@@ -1,4 +1,4 @@
-use Rattle.full_book.proofs.TablesStanding.{tables-stand}
+use Rattle.book.proofs.TablesStanding.{tables-stand}
 use Rattle.power.specs.HourLaws.{baseload-bounded, peakload-bounded}
 use Rattle.power.specs.PowerLaws.{power-laws}
 use Rattle.wheat.specs.WheatLaws.{wheat-laws}

@@ -1,8 +1,18 @@
+use Rattle.std.proofs.Common.{[], sym, ◌∙◌, rules}
 use Rattle.book.proofs.Fresh.{made-sound}
+use Rattle.book.proofs.Paid.{replied-ok}
+use Rattle.book.proofs.TablesStanding.{tables-stand}
 use Rattle.book.proofs.book.Book.make.Goals as goal
 
 pub invariant_of-result : goal.invariant_of-result
 invariant_of-result g c =
-    let f = c.make_refused.ensures.fits c.in_default.is in
-    let s = made-sound (g.T.Terms.meaning c.args.terms) _ _ _ _ c.fresh-tables.ensures f.0 f.1 f.2 in
-    record { counted = s.0; widths = s.1.0; trades = s.1.1.0; costs = s.1.1.1.0 }
+    let q = replied-ok _ _ (sym c.may_make.ensures.is ∙ c.in_default.is) in
+    record { sound = made-sound (g.T.Terms.meaning c.args.terms) c.args.month c.args.accounts c.args.lines.now _ c.fresh-tables.ensures q (c.may_make.ensures.few c.in_default.is) }
+
+pub returns : goal.returns
+returns g c =
+    let q = replied-ok _ _ (sym c.may_make.ensures.is ∙ c.in_default.is) in
+    record {
+      answer = search rules;
+      life = tables-stand (g.T.Terms.meaning c.args.terms) (g.met.T.Terms.lawful c.args.terms) c.args.month c.args.accounts c.args.lines.now q [] _ c.fresh-tables.ensures;
+    }

@@ -1,7 +1,7 @@
 use Rattle.std.proofs.Common.{cond, None, sym, ap, ◌∙◌, arith}
 use Rattle.closing.specs.Closing.{class_at}
 use Rattle.ledger.specs.Prices.{no_prices}
-use Rattle.ledger.specs.declared.tables.ClassPrices.{ClassPrices}
+use Rattle.ledger.specs.declared.prices.ClassPrices.{ClassPrices}
 use Rattle.std.proofs.lemmas.List.{get_or_past}
 use Rattle.closing.proofs.Loops.{cond_same}
 use Rattle.closing.proofs.closing.Closing.newest_at.Goals as goal

@@ -1,0 +1,136 @@
+// Margins: an account's initial margins and mark-to-market margins.
+ghost use Rattle.std.specs.Prelude.{◌≡◌, ◌^◌, ◌<◌, ◌≤◌, true, ◌+ℤ◌, is_some, if◌then◌else◌, nat_eq, unsigned_abs};
+ghost use Rattle.amounts.specs.SumsOfWhole.{sum_z};
+ghost use Rattle.book.specs.Replies.{reply};
+ghost use Rattle.book.specs.Sound.{Lined};
+ghost use Rattle.book.specs.Tables.{account_of, prices_of, view};
+ghost use Rattle.ledger.specs.Questions.{held_priced, line_interval, interval_of, margin_price, repricing_of, margin_of, margin_in, margins as margins_of, margins_refusal};
+ghost use Rattle.ledger.specs.Words.{at};
+
+use crate::book::Book;
+use crate::tables::Tables;
+use ledger::{ClassPrices, Fault};
+use terms::Terms;
+
+// The price for margins: the repricing, or else the last price.
+fn margin_price(prices: &ClassPrices) -> i32
+    ensures { result ≡ margin_price prices.now.repriced prices.now.last }
+{
+    prices.repriced.or(prices.last).unwrap_or(0)
+}
+
+// What a repricing adds.
+fn repricing_of(prices: &ClassPrices, quantity: u32, lots: i32) -> i128
+    ensures is { result ≡ repricing_of prices.now.repriced prices.now.last quantity lots }
+    ensures bound { unsigned_abs result ≤ 2 ^ 100 }
+{
+    match prices.repriced {
+        Some(price) => {
+            amounts::repricing_addition(quantity, lots, price, prices.last.unwrap_or(0))
+        }
+        None => 0,
+    }
+}
+
+fn added(a: i128, b: i128) -> i128
+    requires { (unsigned_abs a ≤ 2 ^ 100) × (unsigned_abs b ≤ 2 ^ 100) }
+    ensures is { result ≡ a +ℤ b }
+    ensures bound { unsigned_abs result ≤ 2 ^ 101 }
+{
+    a + b
+}
+
+// The margin of lots in a class: the least of the ten steps' results, and what a repricing adds.
+fn margin_of(prices: &ClassPrices, interval: u16, quantity: u32, lots: i32) -> i128
+    ensures is { result ≡ margin_of prices.now.repriced prices.now.last interval quantity lots }
+    ensures bound { unsigned_abs result ≤ 2 ^ 101 }
+{
+    let initial = amounts::class_margin(margin_price(prices), interval, quantity, lots);
+    added(initial, repricing_of(prices, quantity, lots))
+}
+
+impl Tables {
+    // The interval on the line of one of the terms' classes, of which there are so many.
+    fn interval(&self, classes: u32, class: u32) -> u16
+        requires { (classes ≤ 12) × (class < classes) × (Lined classes self.now) }
+        ensures { result ≡ line_interval self.now.lines class }
+    {
+        let lines = &self.lines[..classes as usize];
+        match coded::find(lines, class) {
+            Some(place) => lines[place].interval,
+            None => 0,
+        }
+    }
+
+    // Whether an account's lots in a class, if it has any, have a last price.
+    fn is_priced_for(&self, account: u32, class: u32) -> bool
+        requires { (account < 32) × (class < 12) }
+        ensures { result ≡ (if nat_eq (unsigned_abs (at (account_of self.now account).lots class)) 0 then true else is_some (prices_of self.now class).last) }
+    {
+        self.accounts[account as usize].lots[class as usize] == 0
+            || self.prices[class as usize].last.is_some()
+    }
+}
+
+impl<T: Terms> Book<T> {
+    fn holds_priced(&self, account: u32) -> bool
+        requires { account < 32 }
+        ensures { result ≡ held_priced (T.meaning self.now.terms) (view self.now.tables) account }
+    {
+        for class in 0..self.terms.classes() {
+            if !self.tables.is_priced_for(account, class) {
+                return false;
+            }
+        }
+        true
+    }
+
+    // The interval of the class whose interval a class takes that day.
+    fn interval_of(&self, class: u32) -> u16
+        ensures { result ≡ interval_of self.now.tables.lines ((T.meaning self.now.terms).on self.now.tables.day class) }
+    {
+        match self.terms.class_on(self.tables.day, class) {
+            Some(here) => self.tables.interval(self.terms.classes(), here.interval_class),
+            None => 0,
+        }
+    }
+
+    // An account's margin in a class.
+    fn margin_in(&self, account: u32, class: u32) -> i128
+        requires { (account < 32) × (class < 12) }
+        ensures is { result ≡ margin_in (T.meaning self.now.terms) self.now.tables.lines (view self.now.tables) account class }
+        ensures bound { unsigned_abs result ≤ 2 ^ 101 }
+    {
+        margin_of(
+            &self.tables.prices[class as usize],
+            self.interval_of(class),
+            terms::quantity_of(&self.terms, self.tables.day, class),
+            self.tables.accounts[account as usize].lots[class as usize],
+        )
+    }
+
+    // The sum over all classes.
+    fn margin_sum(&self, account: u32) -> i128
+        requires { account < 32 }
+        ensures { result ≡ sum_z (T.meaning self.now.terms).classes (margin_in (T.meaning self.now.terms) self.now.tables.lines (view self.now.tables) account) }
+    {
+        let mut sum = 0;
+        for class in 0..self.terms.classes() {
+            sum += self.margin_in(account, class);
+        }
+        sum
+    }
+
+    // An account's total margin, never positive: every class that it holds must have a last price.
+    pub fn margins(&self, account: u32) -> Result<i128, Fault>
+        ensures { result ≡ reply (margins_refusal (T.meaning self.now.terms) (view self.now.tables) account) (margins_of (T.meaning self.now.terms) self.now.tables.lines (view self.now.tables) account) }
+    {
+        if !self.known(account) {
+            return Err(Fault::UnknownAccount);
+        }
+        if !self.holds_priced(account) {
+            return Err(Fault::HeldUnpriced);
+        }
+        Ok(amounts::total_margin(self.margin_sum(account)))
+    }
+}
