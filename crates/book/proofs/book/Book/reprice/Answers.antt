@@ -19,10 +19,5 @@ returns-in_err-may_reprice g c =
     let same : t ≡ after_tables w t (Reprice c.args.class c.args.price) = kept _ e _ t q in
     record { answer = search rules; after = same; terms = search rules; life = lives-on w (g.met.T.Terms.lawful b.terms) t t _ same }
 
-pub returns : goal.returns
-returns g c = record {
-  answer = search rules;
-  after = search rules;
-  terms = search rules;
-  life = lives-on _ (g.met.T.Terms.lawful c.args.self.now.terms) _ _ _ (search rules);
-}
+pub returns-clause-life : goal.returns-clause-life
+returns-clause-life g c = lives-on _ (g.met.T.Terms.lawful c.args.self.now.terms) _ _ _ (search rules)
