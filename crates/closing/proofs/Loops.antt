@@ -1,5 +1,5 @@
 -- Loops over the classes: tests, the class that is succeeded, sums, tables. Assumes nothing.
-use Rattle.std.proofs.Common.{◌≡◌, ℕ, ◌+◌, ◌*◌, ◌^◌, ◌<◌, ◌≤◌, Bool, true, false, cond, not, ◌&&◌, eqb, List, map, length, get_or, set, ℤ, ◌+ℤ◌, nat_abs, Some, None, Option, sym, refl, ap, ◌∙◌, subst, mul-le-mul_left, mul-add, add-one, arith, length-set, SFits, to_z, of_z}
+use Rattle.std.proofs.Common.{◌≡◌, ℕ, zero, suc, ◌+◌, ◌*◌, ◌^◌, ◌<◌, ◌≤◌, Bool, true, false, cond, not, ◌&&◌, eqb, List, map, length, get_or, set, ℤ, ◌+ℤ◌, nat_abs, Some, None, Option, sym, refl, ap, ◌∙◌, subst, ⊎_elim, mul-le-mul_left, mul-add, add-one, arith, length-set, SFits, to_z, of_z}
 use mir.Syntax.{Width, w128}
 use mir.Val.{hbits}
 use Rattle.amounts.proofs.Exact.{small-fits, added}
@@ -10,7 +10,9 @@ use Rattle.closing.specs.Closing.{successors_on}
 use Rattle.std.proofs.lemmas.List.FromFn.{fill_by_all, get_or-map-range_with_len}
 use Rattle.std.proofs.lemmas.List.Edits.{fill_by_more}
 use Rattle.std.proofs.lemmas.Int.{ints, to_z-of_z}
-use Rattle.std.proofs.lemmas.Bool.{and_from, and_left, and_right, eq-eqb, ne_eqb, not_from_true, not_from_false, cond-true, cond-false}
+use Rattle.std.proofs.lemmas.Bool.{cases_eq, and_from, and_left, and_right, eq-eqb, ne_eqb, not_from_true, not_from_false, cond-true, cond-false}
+use Rattle.std.specs.Array.{IsFromFnResultFrom, IsFromFnResult}
+use Rattle.std.specs.Fn.{Mut, Called}
 use Rattle.std.specs.List.{range_with_len}
 use Rattle.terms.specs.Laws.{Laws, names}
 use Rattle.terms.specs.Meaning.{Meaning, successor}
@@ -105,3 +107,17 @@ fill-turn f d i xs v h e r =
 
 pub fill_end : {X : Type 0} (f : ℕ → X) (d : X) (i : ℕ) (xs : List X) → i ≡ 12 → Filled f d i xs → xs ≡ map f (range_with_len 0 12)
 fill_end f d i xs e r = fill_by_all f xs 12 d r.1 (λ k h. r.0 k (omega arith))
+
+-- a table made by calls at each place, where each call gives what a function says and changes nothing
+module _ {F B : Type 0} (g : Mut F (ℕ × Unit {0}) B) (f : F) (val : ℕ → B) (call : (i : ℕ) (y : B) (q : F) → Called g f (i, tt) y q → (y ≡ val i) × (q ≡ f)) where
+  drawn : (ys : List B) (n i : ℕ) (p : F) → p ≡ f → IsFromFnResultFrom g p ys i n → (k : ℕ) (d : B) → i ≤ k → k < i + n → get_or ys k d ≡ val k
+  drawn ys zero i p e r k d l h = absurd (omega arith)
+  drawn ys (suc n) i p e r k d l h =
+      let one = call i r.1 r.0 (subst (λ (p : F). Called g p (i, tt) r.1 r.0) e r.3) in
+      ⊎_elim
+      (λ (s : k ≡ i). subst (λ k. get_or ys k d ≡ val k) (sym s) (r.2.1 d ∙ one.0))
+      (λ (s : k ≡ i → ⊥). drawn ys n (i + 1) r.0 one.1 r.4 k d (omega arith) (omega arith))
+      (cases_eq k i)
+
+  pub made-by : (ys : List B) (n : ℕ) → B → IsFromFnResult g f ys n → ys ≡ map val (range_with_len 0 n)
+  made-by ys n d r = fill_by_all val ys n d r.long (λ k h. drawn ys n 0 f refl r.each k d (omega arith) (omega arith))

@@ -7,6 +7,7 @@ ghost use Rattle.std.specs.List.{range_with_len};
 ghost use Rattle.terms.specs.Laws.{names, is_taken_over};
 ghost use Rattle.terms.specs.Meaning.{any_below, tradable, has_some_part, successor};
 
+use std::array;
 use terms::{ClassTerms, Terms, TermsOpenDays, quantity_of};
 
 // One class: whether the terms have it, whether it is tradable, the quantity of one lot, its parts (by class number), the
@@ -81,11 +82,7 @@ fn successor_of(class: Option<ClassTerms>) -> Option<u32>
 fn successors<T: Terms>(terms: &T, day: u32) -> [Option<u32>; 12]
     ensures { result ≡ successors_on (T.meaning terms.now) day }
 {
-    let mut all = [None; 12];
-    for c in 0..12 {
-        all[c as usize] = successor_of(terms.class_on(day, c));
-    }
-    all
+    array::from_fn(|class| successor_of(terms.class_on(day, class as u32)))
 }
 
 fn is_named(answer: Option<u32>, class: u32) -> bool

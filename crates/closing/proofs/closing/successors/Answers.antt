@@ -1,10 +1,8 @@
-use Rattle.std.proofs.Common.{ap, ◌∙◌, arith}
+use Rattle.std.proofs.Common.{None, rules}
+use Rattle.closing.proofs.Loops.{made-by}
 use Rattle.terms.specs.Meaning.{successor}
-use Rattle.closing.proofs.Loops.{fill-turn, fill_end}
 use Rattle.closing.proofs.closing.successors.Goals as goal
 
-pub loop-c-preserved : goal.loop-c-preserved
-loop-c-preserved g c = fill-turn _ _ c.loop-c.c c.loop-c.all _ c.loop-c-test.true (c.successor_of.ensures ∙ ap successor c.class_on.ensures) c.loop-c.invariant
-
 pub returns : goal.returns
-returns g c = fill_end _ _ c.loop-c.c c.loop-c.all (omega arith) c.loop-c.invariant
+returns g c =
+    made-by _ _ (λ k. successor ((g.T.Terms.meaning c.args.terms.now).on c.args.day k)) (λ i y q k. (search rules, search rules)) c.from_fn.result 12 None c.from_fn.ensures.items
