@@ -1,9 +1,8 @@
-use Rattle.std.proofs.Common.{rules, ◌≡◌, ℕ, ◌+◌, ◌-◌, ◌*◌, ◌<◌, ◌≤◌, Bool, true, false, ◌&&◌, Some, None, Option, MatchOption, refl}
+use Rattle.std.proofs.Common.{rules, ◌≡◌, ℕ, ◌-◌, ◌<◌, ◌≤◌, Bool, true, false, ◌&&◌, Some, None, Option, MatchOption}
 use Rattle.std.proofs.lemmas.Iterator.{first_from_Range}
-use Rattle.std.proofs.lemmas.Bool.{and_parts}
 use Rattle.calendars.proofs.Firsts.{none_is, first-is}
 use Rattle.calendars.specs.Walks.{first_from, NoneIn}
-use Rattle.terms.specs.Meaning.{has, is_part, successor}
+use Rattle.terms.specs.Meaning.{has, is_part}
 use Rattle.terms.proofs.handover.part_with.Goals as goal
 
 -- what `find` gives of a range is what the walk finds
