@@ -1,6 +1,7 @@
 -- The laws of terms, from what holds of each class on an answered day. Assumes nothing.
 use Rattle.std.proofs.Common.{◌≡◌, ℕ, zero, suc, ◌+◌, ◌<◌, ◌≤◌, Bool, true, false, cond, not, ◌&&◌, eqb, ltb, leb, get_or, replicate, is_some, Some, None, Option, sym, refl, ap, ◌∙◌, subst, ⊎_elim, arith}
 use Rattle.std.proofs.lemmas.Bool.{and_parts, and_from, leb-true, le-leb, ltb-true, lt-ltb, cases_Bool, cond-true, cond-false, false≢true}
+use Rattle.std.proofs.lemmas.Option.{none-some, same_Some}
 use Rattle.calendars.specs.Calendars.{Lawful}
 use Rattle.calendars.specs.Walks.{Next}
 use Rattle.dates.proofs.MonthLaws.{month-below, month-from}
@@ -73,9 +74,6 @@ module _ (opens : ℕ → Bool) (classes settling : ℕ) (quantity : ℕ → ℕ
   one_way : {A : Type 0} → ◌≡◌ {A = Bool} false true → A
   one_way e = absurd (false≢true e)
 
-  nothing : {A B : Type 0} (x : B) → ◌≡◌ {A = Option B} None (Some x) → A
-  nothing x e = absurd (let z : ◌≡◌ {A = ℕ} 0 1 = cc in omega arith)
-
   told-some : (b : Bool) (t : ClassTerms) → is_some (when b t) ≡ b
   told-some true t = refl
   told-some false t = refl
@@ -102,7 +100,7 @@ module _ (opens : ℕ → Bool) (classes settling : ℕ) (quantity : ℕ → ℕ
     calendar = k.calendar;
     quantities = k.quantities;
     answered = λ d c. told-some (answers_for opens classes d c) (at d c);
-    ranges = λ d c t. by_answer d c (λ o. o ≡ Some t → InRange w t) (λ e. nothing t e) (λ a h e. subst (InRange w) (let z : at d c ≡ t = cc in z) (k.ranges d c a h));
+    ranges = λ d c t. by_answer d c (λ o. o ≡ Some t → InRange w t) (λ e. absurd (none-some t e)) (λ a h e. subst (InRange w) (same_Some _ _ e) (k.ranges d c a h));
     whole = λ d c. by_answer d c (λ o. has_some_part o ≡ true → (tradable o ≡ true) × (successor o ≡ None)) (λ e. one_way e) (k.whole d c);
     part = λ d c p.
         by_answer d c (λ o. is_part o p ≡ true → (tradable (w.on d p) ≡ true) × (has_some_part (w.on d p) ≡ false)) (λ e. one_way e)
@@ -114,14 +112,14 @@ module _ (opens : ℕ → Bool) (classes settling : ℕ) (quantity : ℕ → ℕ
         let a = by-day d e in
         subst (λ (o : Option ClassTerms). has_some_part o ≡ false → successor o ≡ None → ⊥) (sym (on-answered d c a h)) (k.lasting d c a h ne);
     same = λ d c s e.
-        by_answer d c (λ o. successor o ≡ Some s → Next opens d e → e < 35430 → months_of (w.on e s) ≡ months_of o) (λ q n l. nothing s q)
+        by_answer d c (λ o. successor o ≡ Some s → Next opens d e → e < 35430 → months_of (w.on e s) ≡ months_of o) (λ q n l. absurd (none-some s q))
         (λ a h q n l. ap months_of (on-answered e s (record { from = omega (arith, a.from, n.after); to = l; opened = n.inside }) ((k.ranges d c a h).next s q)) ∙ ap Some (k.same d c s e a h q n l));
     stays = λ d e.
         let a = by-day d e in
         ap successor (on-answered d settling a k.settles) ∙ k.stays d a ∙ ap (λ (b : Bool). cond b None (Some settling)) (any-ext classes _ _ (λ c l. ap (λ (o : Option ClassTerms). not (eqb c settling) && names (successor o) settling) (sym (on-answered d c a l))));
     apart = λ d c e s.
-        by_answer d c (λ o. successor o ≡ Some s → successor (w.on d e) ≡ Some s → c ≡ e) (λ p q. nothing s p)
-        (λ a h p. by_answer d e (λ o. successor o ≡ Some s → c ≡ e) (λ q. nothing s q) (λ _ l q. k.apart d c e s a h l p q));
+        by_answer d c (λ o. successor o ≡ Some s → successor (w.on d e) ≡ Some s → c ≡ e) (λ p q. absurd (none-some s p))
+        (λ a h p. by_answer d e (λ o. successor o ≡ Some s → c ≡ e) (λ q. absurd (none-some s q)) (λ _ l q. k.apart d c e s a h l p q));
     untraded = λ d. by_answer d settling (λ o. tradable o ≡ false) refl (λ a h. k.untraded d a);
     later = λ d c i m ne.
         by_answer d settling (λ o. has o i ≡ true → has (w.on d c) m ≡ true → i < m) (λ p q. one_way p)

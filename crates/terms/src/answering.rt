@@ -13,5 +13,5 @@ const END: u32 = 35_430;
 pub fn answers_for<C: Calendar>(calendar: &C, classes: u32, day: u32, class: u32) -> bool
     ensures { result ≡ answers_for (C.opens calendar.now) classes day class }
 {
-    day >= FIRST_DAY && day < END && calendar.is_open(day) && class < classes
+    (FIRST_DAY..END).contains(&day) && calendar.is_open(day) && class < classes
 }
