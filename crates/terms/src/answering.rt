@@ -1,8 +1,10 @@
 // For which days and classes terms answer.
-ghost use Rattle.std.specs.Prelude.{◌≡◌};
+ghost use Rattle.std.specs.Prelude.{◌≡◌, ◌<◌, ◌≤◌, Some, IfSome};
+ghost use Rattle.calendars.specs.Walks.{left};
+ghost use Rattle.dates.specs.Dates.{month_of, when};
 ghost use Rattle.terms.specs.Listing.{answers_for};
 
-use calendars::Calendar;
+use calendars::{Calendar, OpenDays};
 
 // The first day of 2001, and that of 2097.
 const FIRST_DAY: u32 = 366;
@@ -14,4 +16,31 @@ pub fn answers_for<C: Calendar>(calendar: &C, classes: u32, day: u32, class: u32
     ensures { result ≡ answers_for (C.opens calendar.now) classes day class }
 {
     (FIRST_DAY..END).contains(&day) && calendar.is_open(day) && class < classes
+}
+
+// A day in its month: the month, and how many open days are left in it after the day.
+#[derive(Clone, Copy, PartialEq, Eq, Debug)]
+pub struct DayInMonth {
+    pub month: u32,
+    pub left: u32,
+}
+
+// A day in its month, where terms over a calendar, with so many classes, answer for a class on it.
+pub fn answered_day<C: Calendar>(
+    calendar: &C,
+    classes: u32,
+    day: u32,
+    class: u32,
+) -> Option<DayInMonth>
+    ensures is { result ≡ when (answers_for (C.opens calendar.now) classes day class) (record { month = month_of day; left = left (C.opens calendar.now) day }) }
+    ensures class { IfSome result (λ d. class < classes) }
+    ensures month { IfSome result (λ d. (12 ≤ d.month) × (d.month < 1164)) }
+{
+    if !answers_for(calendar, classes, day, class) {
+        return None;
+    }
+    Some(DayInMonth {
+        month: dates::month_of(day)?,
+        left: calendars::count_left(&OpenDays { calendar }, day)?,
+    })
 }
