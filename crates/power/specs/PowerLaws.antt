@@ -7,7 +7,6 @@ use Rattle.std.proofs.lemmas.Option.{none-some}
 use Rattle.std.proofs.lemmas.Bool.Decides.{nat_tests}
 use Rattle.calendars.specs.Calendars.{Lawful}
 use Rattle.calendars.specs.Walks.{left, left_in_month}
-use Rattle.dates.proofs.Below.{at}
 use Rattle.dates.proofs.MonthLaws.{told}
 use Rattle.dates.specs.Dates.{when, month_of, month_of_day}
 use Rattle.power.specs.Periods.{Left, left-of, own_is, turns-is, own-next}

@@ -2,7 +2,7 @@
 ghost use Rattle.std.specs.Prelude.{◌≡◌, ℕ, ◌<◌, ◌≤◌, if◌then◌else◌};
 ghost use Rattle.power.specs.Classes.{no_parts, cascade};
 ghost use Rattle.power.specs.Monthly.{own_by, turns_by, class_by};
-ghost use Rattle.terms.specs.Periods.{months_in};
+ghost use Rattle.terms.specs.Period.{months_in};
 
 use crate::classes::{D01, M01, Q01, Y01, Y02, row};
 use terms::{ClassTerms, DayInMonth, Months, Period};
@@ -46,7 +46,6 @@ fn turns(period: Period, day: DayInMonth) -> bool
 }
 
 fn parts(class: u32, turning: bool) -> [bool; 12]
-    requires { class < 11 }
     ensures { result ≡ (if turning then cascade class else no_parts) }
 {
     match class {
@@ -57,7 +56,8 @@ fn parts(class: u32, turning: bool) -> [bool; 12]
 }
 
 pub(crate) fn class_at(day: DayInMonth, second_year: bool, class: u32) -> ClassTerms
-    requires { (1 ≤ day.month) × ((day.month < 1200) × (class < 11)) }
+    requires month { (1 ≤ day.month) × (day.month < 1200) }
+    requires class { class < 11 }
     ensures { result ≡ class_by day.month day.left second_year class }
 {
     let row = row(class);

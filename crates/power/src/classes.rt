@@ -2,7 +2,7 @@
 ghost use Rattle.std.specs.Prelude.{◌≡◌, ◌<◌, ◌≤◌};
 ghost use Rattle.std.specs.Option.{option_map};
 ghost use Rattle.power.specs.Classes.{length_of, place_of, earlier, class_name};
-ghost use Rattle.terms.specs.Periods.{months_in};
+ghost use Rattle.terms.specs.Period.{months_in};
 
 use terms::{ClassRow, Period};
 

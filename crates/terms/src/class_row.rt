@@ -2,7 +2,7 @@
 ghost use Rattle.std.specs.Prelude.{◌≡◌};
 ghost use Rattle.std.specs.List.{slice_get};
 ghost use Rattle.std.specs.Option.{option_map};
-ghost use Rattle.terms.specs.Periods.{months_in};
+ghost use Rattle.terms.specs.Period.{months_in};
 
 // How long a class's period is.
 #[derive(Clone, Copy, PartialEq, Eq, Debug)]
