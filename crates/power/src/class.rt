@@ -22,7 +22,6 @@ const YEAR_PARTS: [bool; 12] = [Y, Y, Y, N, Y, Y, Y, N, N, N, N, N];
 
 // The number of the day's own period, one further on the last three open days of a quarter or a year.
 fn own(period: Period, day: DayInMonth) -> u32
-    requires { day.month < 1200 }
     ensures is { result ≡ own_by (months_in period) day.month day.left }
     ensures bound { result ≤ 1200 }
 {
@@ -56,8 +55,7 @@ fn parts(class: u32, turning: bool) -> [bool; 12]
 }
 
 pub(crate) fn class_at(day: DayInMonth, second_year: bool, class: u32) -> ClassTerms
-    requires month { (1 ≤ day.month) × (day.month < 1200) }
-    requires class { class < 11 }
+    requires { class < 11 }
     ensures { result ≡ class_by day.month day.left second_year class }
 {
     let row = row(class);

@@ -41,7 +41,6 @@ fn successor(left: u32, class: u32) -> Option<u32>
 
 // A class on a day, told by the day's month and the open days still to come in it.
 fn class_in(day: DayInMonth, class: u32) -> ClassTerms
-    requires { day.month < 1200 }
     ensures { result ≡ class_in day.month day.left class }
 {
     ClassTerms {

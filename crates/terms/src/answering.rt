@@ -1,7 +1,7 @@
 // For which days and classes terms answer.
-ghost use Rattle.std.specs.Prelude.{◌≡◌, ◌<◌, ◌≤◌, Some, IfSome};
+ghost use Rattle.std.specs.Prelude.{◌≡◌, ◌<◌, ◌≤◌, is_some, IfSome};
 ghost use Rattle.calendars.specs.Walks.{left};
-ghost use Rattle.dates.specs.Dates.{month_of, when};
+ghost use Rattle.dates.specs.Dates.{month_of};
 ghost use Rattle.terms.specs.Listing.{answers_for};
 
 use calendars::{Calendar, OpenDays};
@@ -18,11 +18,12 @@ pub fn answers_for<C: Calendar>(calendar: &C, classes: u32, day: u32, class: u32
     (FIRST_DAY..END).contains(&day) && calendar.is_open(day) && class < classes
 }
 
-// A day in its month: the month, and how many open days are left in it after the day.
+// A day in its month: the month, which is one of 2001 to 2096, and how many open days are left in it after the day.
 #[derive(Clone, Copy, PartialEq, Eq, Debug)]
 pub struct DayInMonth {
     pub month: u32,
     pub left: u32,
+    ghost in_range: { (12 ≤ month) × (month < 1164) },
 }
 
 // A day in its month, where terms over a calendar, with so many classes, answer for a class on it.
@@ -32,9 +33,10 @@ pub fn answered_day<C: Calendar>(
     day: u32,
     class: u32,
 ) -> Option<DayInMonth>
-    ensures is { result ≡ when (answers_for (C.opens calendar.now) classes day class) (record { month = month_of day; left = left (C.opens calendar.now) day }) }
+    ensures answers { is_some result ≡ answers_for (C.opens calendar.now) classes day class }
     ensures class { IfSome result (λ d. class < classes) }
-    ensures month { IfSome result (λ d. (12 ≤ d.month) × (d.month < 1164)) }
+    ensures month { IfSome result (λ d. d.month ≡ month_of day) }
+    ensures left { IfSome result (λ d. d.left ≡ left (C.opens calendar.now) day) }
 {
     if !answers_for(calendar, classes, day, class) {
         return None;

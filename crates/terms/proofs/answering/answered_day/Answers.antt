@@ -3,10 +3,10 @@ use Rattle.dates.proofs.MonthLaws.{month-only}
 use Rattle.terms.proofs.Listings.{is-answered, answered-month}
 use Rattle.terms.proofs.answering.answered_day.Goals as goal
 
-pub returns-clause-month : goal.returns-clause-month
-returns-clause-month g c =
-    let f = g.C.Calendar.opens c.args.calendar.now in
-    let a = is-answered f c.args.classes c.args.day c.args.class (sym c.answers_for.ensures ∙ c.if-not-answers_for.false) in
-    let m = answered-month f c.args.day a.0 in
+-- the month of an answered day is one of 2001 to 2096
+pub invariant_of-result : goal.invariant_of-result
+invariant_of-result g c =
+    let a = is-answered (g.C.Calendar.opens c.args.calendar.now) c.args.classes c.args.day c.args.class (sym c.answers_for.ensures ∙ c.if-not-answers_for.false) in
+    let m = answered-month _ c.args.day a.0 in
     let e = month-only c.args.day c.in_ok-month_of.field-0 c.in_ok-month_of.ensures.inside.0 in
-    (omega (arith, e, m.0), omega (arith, e, m.1))
+    record { in_range = (omega (arith, e, m.0), omega (arith, e, m.1)) }
