@@ -3,10 +3,10 @@ use Rattle.std.specs.Prelude.{◌≡◌, ℕ, ◌+◌, ◌-◌, ◌*◌, ◌/◌
 use Rattle.std.proofs.Common.{sym, ap, subst, ◌∙◌, ⊎_elim, add-zero, arith}
 use Rattle.std.proofs.lemmas.Bool.{cases_eq, cases_lt, eqb-true, ne_eqb, lt-ltb, le-ltb, ltb-true, false≢true, not-true, and_parts, and_right, cond_both}
 use Rattle.std.proofs.lemmas.List.{get_or_past}
+use Rattle.std.proofs.lemmas.Option.{none-some}
 use Rattle.std.proofs.lemmas.Bool.Decides.{nat_tests}
 use Rattle.calendars.specs.Calendars.{Lawful}
 use Rattle.calendars.specs.Walks.{left, left_in_month}
-use Rattle.dates.proofs.Below.{at}
 use Rattle.dates.proofs.MonthLaws.{told}
 use Rattle.dates.specs.Dates.{when, month_of, month_of_day}
 use Rattle.power.specs.Periods.{Left, left-of, own_is, turns-is, own-next}
@@ -16,7 +16,7 @@ use Rattle.power.specs.Hours.{Bounded}
 use Rattle.power.specs.Monthly.{turns_by, class_by}
 use Rattle.power.specs.Power.{left_of, own, turns, class_from, power_class, power}
 use Rattle.terms.proofs.Chains.{moved, apart}
-use Rattle.terms.proofs.Listings.{Answered, answered-month, Kept, laws, on-answered}
+use Rattle.terms.proofs.Listings.{no_part, Answered, answered-month, Kept, laws, on-answered}
 use Rattle.terms.specs.Chain.{moves_up}
 use Rattle.terms.specs.Listing.{answers_for}
 use Rattle.terms.specs.Laws.{Laws, names}
@@ -77,10 +77,6 @@ below : (ps : List Bool) → length ps ≡ 12 → slice_index_or ps 11 false ≡
 below ps w z p e =
     ⊎_elim (λ l. l) (λ l. absurd (false≢true (sym (⊎_elim (λ (q : p ≡ 11). ap (λ i. get_or ps i false) q ∙ z) (λ q. get_or_past ps p false (omega arith)) (cases_eq p 11)) ∙ e))) (cases_lt p 11)
 
-no_part : (p : ℕ) → slice_index_or no_parts p false ≡ false
-no_part p =
-    ⊎_elim (λ l. not-true _ (at (λ p. not (slice_index_or no_parts p false)) 12 refl p l)) (λ l. get_or_past no_parts p false l) (cases_lt p 12)
-
 -- a class that cascades is tradable and hands over to none
 cascades : (turning second : Bool) (n c : ℕ) → cond (n == 8) second (nat_lt n 9) ≡ true → earlier n ≡ None → turning ≡ true → c ≡ n → (cond (c == 8) second (nat_lt c 9) ≡ true) × (moves_up turning (earlier c) c ≡ None)
 cascades turning second n c t z on e =
@@ -97,11 +93,8 @@ fine-part turning second p e =
     either true = refl
     either false = refl
 
-nothing : {A : Type 0} (n : ℕ) → ◌≡◌ {A = Option ℕ} (Some n) None → A
-nothing n e = absurd (let z : ◌≡◌ {A = ℕ} 0 1 = cc in omega arith)
-
 lasts : (turning : Bool) (c : ℕ) → c < 11 → (c ≢ 10) → some (cond turning (cascade c) no_parts) ≡ false → moves_up turning (earlier c) c ≢ None
-lasts false c h ne p e = nothing c e
+lasts false c h ne p e = none-some c (sym e)
 lasts true c h ne p e =
     ⊎_elim (λ q. false≢true (sym (subst (λ (n : ℕ). some (cascade n) ≡ false) q p))) (λ q. false≢true (sym (subst (λ (n : ℕ). some (cascade n) ≡ false) q p))) (last-in-chain c h e ne)
 
@@ -152,7 +145,7 @@ module _ (f : ℕ → Bool) (law : Lawful f) (second : Bool) where
     whole = λ d c a h e.
         by_parts (λ ps. some ps ≡ true → (cond (c == 8) second (nat_lt c 9) ≡ true) × (moves_up (turns f (length_of c) d) (earlier c) c ≡ None)) (turns f (length_of c) d) c (λ z. absurd (false≢true z)) (λ t n _. cascades _ second 3 c refl refl t n) (λ t n _. cascades _ second 7 c refl refl t n) e;
     part = λ d c p a h l e.
-        fine-part (turns f (length_of p) d) second p (by_parts (λ ps. slice_index_or ps p false ≡ true → fine p ≡ true) (turns f (length_of c) d) c (λ z. absurd (false≢true (sym (no_part p) ∙ z))) (λ _ _. quarter-part-fine p l) (λ _ _. year-part-fine p l) e);
+        fine-part (turns f (length_of p) d) second p (by_parts (λ ps. slice_index_or ps p false ≡ true → fine p ≡ true) (turns f (length_of c) d) c (λ z. absurd (no_part 12 p z)) (λ _ _. quarter-part-fine p l) (λ _ _. year-part-fine p l) e);
     cover = λ d c x a h e.
         let m = answered-month f d a in
         by_parts (λ ps. some ps ≡ true → sum_below 11 (λ p. one (slice_index_or ps p false && in_months (months d p) x)) ≡ one (in_months (months d c) x)) (turns f (length_of c) d) c (λ z. absurd (false≢true z))

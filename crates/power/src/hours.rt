@@ -8,6 +8,11 @@ ghost use Rattle.power.specs.HourLaws.{baseload-bounded, peakload-bounded};
 
 use calendars::{OpenDays, Weekdays};
 
+// The months of a year in which the clock goes forward and back, from 0 for January.
+const MARCH: u32 = 2;
+
+const OCTOBER: u32 = 9;
+
 // A load profile: how many hours each month has, and whether the second year is tradable.
 pub trait Profile {
     ghost hours: { Self → ℕ → ℕ };
@@ -36,11 +41,11 @@ impl Profile for Baseload {
 
     fn hours_of(&self, month: u32) -> Option<u32> {
         let hours = 24 * dates::month_length(month)?;
-        match month % 12 {
-            2 => Some(hours - 1),
-            9 => Some(hours + 1),
-            _ => Some(hours),
-        }
+        Some(match month % 12 {
+            MARCH => hours - 1,
+            OCTOBER => hours + 1,
+            _ => hours,
+        })
     }
 
     fn trades_second_year(&self) -> bool {

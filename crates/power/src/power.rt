@@ -4,9 +4,9 @@ ghost use Rattle.power.specs.Power.{power};
 ghost use Rattle.power.specs.PowerLaws.{power-laws};
 
 use crate::class::class_at;
+use crate::classes::{CLASSES, D02};
 use crate::hours::Profile;
-use crate::kind::{CLASSES, D02};
-use calendars::{Calendar, OpenDays};
+use calendars::Calendar;
 use terms::{ClassTerms, Terms};
 
 // Power futures of a load profile over a calendar.
@@ -38,14 +38,7 @@ impl<C: Calendar, P: Profile> Terms for Power<C, P> {
     }
 
     fn class_on(&self, day: u32, class: u32) -> Option<ClassTerms> {
-        if !terms::answers_for(&self.calendar, CLASSES, day, class) {
-            return None;
-        }
-        let month = dates::month_of(day)?;
-        let open_days = OpenDays {
-            calendar: &self.calendar,
-        };
-        let left = calendars::count_left(&open_days, day)?;
-        Some(class_at(month, left, self.profile.trades_second_year(), class))
+        let day = terms::answered_day(&self.calendar, CLASSES, day, class)?;
+        Some(class_at(day, self.profile.trades_second_year(), class))
     }
 }

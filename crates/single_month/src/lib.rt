@@ -3,15 +3,15 @@
 //
 // This crate shows how to write terms of one's own, in three steps. `specs/Single.antt` says what each class is on a day,
 // and nothing of how that is found. This file has the five calls of `Terms`, which answer just that, with small functions
-// below them, and none of these wants a proof by hand. `proofs/SingleLaws.antt` shows law by law that such classes keep the
+// below them, and none of these wants a proof by hand. `specs/SingleLaws.antt` shows law by law that such classes keep the
 // laws of terms over every calendar; without it there is no `impl` below, and no book over this product.
 ghost use Rattle.std.specs.Prelude.{◌≡◌, ◌+◌, ◌<◌, ◌==◌};
 ghost use Rattle.terms.specs.Chain.{moves_up};
 ghost use Rattle.single_month.specs.Single.{chain, class_in, single};
 ghost use Rattle.single_month.specs.SingleLaws.{single-laws};
 
-use calendars::{Calendar, OpenDays};
-use terms::{ClassTerms, Months, Terms};
+use calendars::Calendar;
+use terms::{ClassTerms, DayInMonth, Months, Terms};
 
 // The classes: that of the month after the day's month, and that of the day's month, which settles.
 const NEXT: u32 = 0;
@@ -34,27 +34,24 @@ fn successor(left: u32, class: u32) -> Option<u32>
 {
     if left > 0 {
         Some(class)
-    } else if class == NEXT {
-        Some(CURRENT)
     } else {
-        None
+        (class == NEXT).then_some(CURRENT)
     }
 }
 
-// A class on a day of the given month, with so many open days still to come in it.
-fn class_in(month: u32, left: u32, class: u32) -> ClassTerms
-    requires { month < 1200 }
-    ensures { result ≡ class_in month left class }
+// A class on a day, told by the day's month and the open days still to come in it.
+fn class_in(day: DayInMonth, class: u32) -> ClassTerms
+    ensures { result ≡ class_in day.month day.left class }
 {
     ClassTerms {
         months: Months {
-            first: month_of_class(month, class),
+            first: month_of_class(day.month, class),
             count: 1,
         },
         tradable: class == NEXT,
         interval_class: class,
         parts: [false; 12],
-        successor: successor(left, class),
+        successor: successor(day.left, class),
     }
 }
 
@@ -86,14 +83,7 @@ impl<C: Calendar> Terms for SingleMonth<C> {
     }
 
     fn class_on(&self, day: u32, class: u32) -> Option<ClassTerms> {
-        if !terms::answers_for(&self.calendar, CLASSES, day, class) {
-            return None;
-        }
-        let month = dates::month_of(day)?;
-        let open_days = OpenDays {
-            calendar: &self.calendar,
-        };
-        let left = calendars::count_left(&open_days, day)?;
-        Some(class_in(month, left, class))
+        let day = terms::answered_day(&self.calendar, CLASSES, day, class)?;
+        Some(class_in(day, class))
     }
 }

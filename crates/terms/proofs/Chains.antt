@@ -1,6 +1,7 @@
 -- What moving up by one place keeps, for every product. Assumes nothing.
 use Rattle.std.proofs.Common.{◌≡◌, ℕ, ◌+◌, ◌<◌, Bool, true, false, cond, ◌&&◌, eqb, ltb, Some, None, Option, sym, refl, ap, ◌∙◌, subst, add-zero, arith}
 use Rattle.std.proofs.lemmas.Bool.{and_parts, and_from, eqb-true, eq-eqb, ltb-true, cond-true}
+use Rattle.std.proofs.lemmas.Option.{same_Some}
 use Rattle.dates.proofs.Below.{every, at}
 use Rattle.terms.specs.Chain.{Chain, moves_up}
 use Rattle.terms.specs.Meaning.{one}
@@ -30,9 +31,6 @@ module _ (ch : Chain) (ok : fits ch ≡ true) where
       let t = at (tells ch a) ch.size (at (λ a. every (tells ch a) ch.size) ch.size (and_parts _ _ ok).1 a ha) b hb in
       eqb-true a b (sym (cond-true _ (eqb a b) true (and_from _ _ (eq-eqb _ _ k) (eq-eqb _ _ p))) ∙ t)
 
-  some_same : (a b : ℕ) → ◌≡◌ {A = Option ℕ} (Some a) (Some b) → a ≡ b
-  some_same a b e = cc
-
   -- a class and its successor stand in one chain, and the class's period is the successor's next day
   pub moved : (own next : ℕ → ℕ) (turns : ℕ → Bool) (c s : ℕ) → c < ch.size → next (ch.kind c) ≡ own (ch.kind c) + one (turns (ch.kind c)) → moves_up (turns (ch.kind c)) (ch.earlier c) c ≡ Some s → (s < ch.size) × (ch.kind s ≡ ch.kind c) × (next (ch.kind s) + ch.place s ≡ own (ch.kind c) + ch.place c)
   moved own next turns c s h step e = go (turns (ch.kind c)) refl e
@@ -43,7 +41,7 @@ module _ (ch : Chain) (ok : fits ch ≡ true) where
           let n : next (ch.kind c) ≡ own (ch.kind c) + 1 = step ∙ ap (λ (b : Bool). own (ch.kind c) + one b) t in
           (z.0, z.1, omega (arith, ap next z.1, n, z.2))
       go false t q =
-          let z = some_same c s q in
+          let z = same_Some c s q in
           let n : next (ch.kind c) ≡ own (ch.kind c) = step ∙ ap (λ (b : Bool). own (ch.kind c) + one b) t ∙ add-zero _ in
           (subst (λ (x : ℕ). x < ch.size) z h, sym (ap ch.kind z), omega (arith, n, ap (λ (x : ℕ). next (ch.kind x)) z, ap ch.place z))
 

@@ -1,6 +1,7 @@
 -- No month is lost when a day is closed. Assumes nothing.
 use Rattle.std.proofs.Common.{◌≡◌, ℕ, zero, suc, ◌+◌, ◌<◌, Bool, true, false, cond, ◌&&◌, is_some, Some, None, Option, sym, refl, ap, ◌∙◌, ⊎_elim, add-one, arith}
 use Rattle.std.proofs.lemmas.Bool.{and_parts, or_left, or_right, cases_eq, cases_lt, false≢true, ltb-true}
+use Rattle.std.proofs.lemmas.Option.{none-some}
 use Rattle.calendars.proofs.Firsts.{found, none_found}
 use Rattle.calendars.specs.Walks.{Next}
 use Rattle.terms.proofs.Sums.{sum-ext, sum-none}
@@ -31,9 +32,6 @@ module _ (w : Meaning) (law : Laws w) where
   same-month : (d c m e s : ℕ) → has (w.on d c) m ≡ true → successor (w.on d c) ≡ Some s → Next w.opens d e → e < 35430 → has (w.on e s) m ≡ true
   same-month d c m e s h q n l = ap (λ t. in_months t m) (law.same d c s e q n l) ∙ h
 
-  nothing : {A : Type 0} (s : ℕ) → ◌≡◌ {A = Option ℕ} (Some s) None → A
-  nothing s e = absurd (let z : ◌≡◌ {A = ℕ} 0 1 = cc in omega arith)
-
   -- the class itself hands over, or the part with the month
   module _ (d c m : ℕ) (h : has (w.on d c) m ≡ true) where
     follows : (b : Bool) → has_some_part (w.on d c) ≡ b → (e s : ℕ) → successor_of w d (cond b (part_with w d c m) (Some c)) ≡ Some s → Next w.opens d e → e < 35430 → has (w.on e s) m ≡ true
@@ -41,7 +39,7 @@ module _ (w : Meaning) (law : Laws w) where
     follows true p e s q n l = go (part_with w d c m) refl q
       where
         go : (o : Option ℕ) → part_with w d c m ≡ o → successor_of w d o ≡ Some s → has (w.on e s) m ≡ true
-        go None t q = nothing s (sym q)
+        go None t q = absurd (none-some s q)
         go (Some x) t q =
             let f = found (λ p. is_part (w.on d c) p && has (w.on d p) m) 12 0 x t in
             same-month d x m e s (and_parts _ _ f.0).1 q n l
@@ -53,7 +51,7 @@ module _ (w : Meaning) (law : Laws w) where
       where
         taken : (b : Bool) → cond b None (Some w.settling) ≡ None → b ≡ true
         taken true e = refl
-        taken false e = nothing w.settling e
+        taken false e = absurd (none-some w.settling (sym e))
     ends true p q = go (part_with w d c m) refl q
       where
         go : (o : Option ℕ) → part_with w d c m ≡ o → successor_of w d o ≡ None → (c ≡ w.settling) × (is_taken_over w d ≡ true)

@@ -1,11 +1,12 @@
 -- The laws of terms, from what holds of each class on an answered day. Assumes nothing.
 use Rattle.std.proofs.Common.{◌≡◌, ℕ, zero, suc, ◌+◌, ◌<◌, ◌≤◌, Bool, true, false, cond, not, ◌&&◌, eqb, ltb, leb, get_or, replicate, is_some, Some, None, Option, sym, refl, ap, ◌∙◌, subst, ⊎_elim, arith}
 use Rattle.std.proofs.lemmas.Bool.{and_parts, and_from, leb-true, le-leb, ltb-true, lt-ltb, cases_Bool, cond-true, cond-false, false≢true}
+use Rattle.std.proofs.lemmas.Option.{none-some, same_Some}
 use Rattle.calendars.specs.Calendars.{Lawful}
 use Rattle.calendars.specs.Walks.{Next}
 use Rattle.dates.proofs.MonthLaws.{month-below, month-from}
 use Rattle.dates.specs.Dates.{when, start, month_of}
-use Rattle.terms.specs.Meaning.{Meaning, answers, sum_below, any_below, one, in_months, has, months_of, tradable, is_part, has_some_part, successor}
+use Rattle.terms.specs.Meaning.{Meaning, sum_below, any_below, one, in_months, has, months_of, tradable, is_part, has_some_part, successor}
 use Rattle.terms.specs.Laws.{Laws, InRange, names}
 use Rattle.terms.specs.Listing.{answers_for, listing}
 use Rattle.terms.specs.declared.class_terms.ClassTerms.{ClassTerms}
@@ -27,6 +28,22 @@ pub record Answered (opens : ℕ → Bool) (d : ℕ) : Type 0 where
 pub answered-month : (opens : ℕ → Bool) (d : ℕ) → Answered opens d → (12 ≤ month_of d) × (month_of d < 1164)
 unfolding start
 answered-month opens d a = (month-from d 12 a.from, month-below d 1164 a.to)
+
+-- an answered day, told by a test
+pub answered-day : (opens : ℕ → Bool) (d : ℕ) → (leb 366 d && (ltb d 35430 && opens d)) ≡ true → Answered opens d
+answered-day opens d e =
+    let a = and_parts _ _ e in
+    let b = and_parts _ _ a.1 in
+    record { from = leb-true 366 d a.0; to = ltb-true d 35430 b.0; opened = b.1 }
+
+pub is-answered : (opens : ℕ → Bool) (classes d c : ℕ) → answers_for opens classes d c ≡ true → Answered opens d × (c < classes)
+is-answered opens classes d c e =
+    let a = and_parts _ _ e in
+    (answered-day opens d a.0, ltb-true c classes a.1)
+
+is-listed : (opens : ℕ → Bool) (classes d c : ℕ) → Answered opens d → c < classes → answers_for opens classes d c ≡ true
+is-listed opens classes d c a h =
+    and_from _ _ (and_from _ _ (le-leb 366 d a.from) (and_from _ _ (lt-ltb d 35430 a.to) a.opened)) (lt-ltb c classes h)
 
 module _ (opens : ℕ → Bool) (classes settling : ℕ) (quantity : ℕ → ℕ) (at : ℕ → ℕ → ClassTerms) where
   abbrev w : Meaning
@@ -50,31 +67,17 @@ module _ (opens : ℕ → Bool) (classes settling : ℕ) (quantity : ℕ → ℕ
     pub untraded : (d : ℕ) → Answered opens d → (at d settling).tradable ≡ false
     pub later : (d c : ℕ) → Answered opens d → c < classes → (c ≡ settling → ⊥) → (at d settling).months.first + (at d settling).months.count ≤ (at d c).months.first
 
-  pub is-answered : (d c : ℕ) → answers_for opens classes d c ≡ true → Answered opens d × (c < classes)
-  is-answered d c e =
-      let a = and_parts _ _ e in
-      let b = and_parts _ _ a.0 in
-      let x = and_parts _ _ b.1 in
-      (record { from = leb-true 366 d b.0; to = ltb-true d 35430 x.0; opened = x.1 }, ltb-true c classes a.1)
-
-  pub is-listed : (d c : ℕ) → Answered opens d → c < classes → answers_for opens classes d c ≡ true
-  is-listed d c a h =
-      and_from _ _ (and_from _ _ (le-leb 366 d a.from) (and_from _ _ (lt-ltb d 35430 a.to) a.opened)) (lt-ltb c classes h)
-
   -- an answer is the class's, on an answered day, or there is none
   by_answer : (d c : ℕ) (P : Option ClassTerms → Type 0) → P None → (Answered opens d → c < classes → P (Some (at d c))) → P (w.on d c)
   by_answer d c P none some =
-      ⊎_elim (λ e. let t = is-answered d c e in subst P (sym (cond-true _ (Some (at d c)) None e)) (some t.0 t.1)) (λ e. subst P (sym (cond-false _ (Some (at d c)) None e)) none)
+      ⊎_elim (λ e. let t = is-answered opens classes d c e in subst P (sym (cond-true _ (Some (at d c)) None e)) (some t.0 t.1)) (λ e. subst P (sym (cond-false _ (Some (at d c)) None e)) none)
       (cases_Bool (answers_for opens classes d c))
 
   pub on-answered : (d c : ℕ) → Answered opens d → c < classes → w.on d c ≡ Some (at d c)
-  on-answered d c a h = cond-true _ (Some (at d c)) None (is-listed d c a h)
+  on-answered d c a h = cond-true _ (Some (at d c)) None (is-listed opens classes d c a h)
 
   one_way : {A : Type 0} → ◌≡◌ {A = Bool} false true → A
   one_way e = absurd (false≢true e)
-
-  nothing : {A B : Type 0} (x : B) → ◌≡◌ {A = Option B} None (Some x) → A
-  nothing x e = absurd (let z : ◌≡◌ {A = ℕ} 0 1 = cc in omega arith)
 
   told-some : (b : Bool) (t : ClassTerms) → is_some (when b t) ≡ b
   told-some true t = refl
@@ -83,13 +86,6 @@ module _ (opens : ℕ → Bool) (classes settling : ℕ) (quantity : ℕ → ℕ
   any-ext : (n : ℕ) (f g : ℕ → Bool) → ((k : ℕ) → k < n → f k ≡ g k) → any_below n f ≡ any_below n g
   any-ext zero f g h = refl
   any-ext (suc n) f g h = rw (any-ext n f g (λ k l. h k (omega arith)), h n (omega arith))
-
-  -- the class's number is below the bound: so it is answered
-  by-day : (d : ℕ) → answers w d ≡ true → Answered opens d
-  by-day d e =
-      let b = and_parts _ _ e in
-      let x = and_parts _ _ b.1 in
-      record { from = leb-true 366 d b.0; to = ltb-true d 35430 x.0; opened = x.1 }
 
   in_order : (a n b l i m : ℕ) → a + n ≤ b → (leb a i && ltb i (a + n)) ≡ true → (leb b m && ltb m (b + l)) ≡ true → i < m
   in_order a n b l i m h p q = omega (arith, ltb-true i (a + n) (and_parts (leb a i) (ltb i (a + n)) p).1, leb-true b m (and_parts (leb b m) (ltb m (b + l)) q).0)
@@ -102,7 +98,7 @@ module _ (opens : ℕ → Bool) (classes settling : ℕ) (quantity : ℕ → ℕ
     calendar = k.calendar;
     quantities = k.quantities;
     answered = λ d c. told-some (answers_for opens classes d c) (at d c);
-    ranges = λ d c t. by_answer d c (λ o. o ≡ Some t → InRange w t) (λ e. nothing t e) (λ a h e. subst (InRange w) (let z : at d c ≡ t = cc in z) (k.ranges d c a h));
+    ranges = λ d c t. by_answer d c (λ o. o ≡ Some t → InRange w t) (λ e. absurd (none-some t e)) (λ a h e. subst (InRange w) (same_Some _ _ e) (k.ranges d c a h));
     whole = λ d c. by_answer d c (λ o. has_some_part o ≡ true → (tradable o ≡ true) × (successor o ≡ None)) (λ e. one_way e) (k.whole d c);
     part = λ d c p.
         by_answer d c (λ o. is_part o p ≡ true → (tradable (w.on d p) ≡ true) × (has_some_part (w.on d p) ≡ false)) (λ e. one_way e)
@@ -111,17 +107,17 @@ module _ (opens : ℕ → Bool) (classes settling : ℕ) (quantity : ℕ → ℕ
         by_answer d c (λ o. has_some_part o ≡ true → sum_below classes (λ p. one (is_part o p && has (w.on d p) m)) ≡ one (has o m)) (λ e. one_way e)
         (λ a h e. sum-ext classes _ _ (λ p l. ap (λ (o : Option ClassTerms). one (is_part (Some (at d c)) p && has o m)) (on-answered d p a l)) ∙ k.cover d c m a h e);
     lasting = λ d c e h ne.
-        let a = by-day d e in
+        let a = answered-day opens d e in
         subst (λ (o : Option ClassTerms). has_some_part o ≡ false → successor o ≡ None → ⊥) (sym (on-answered d c a h)) (k.lasting d c a h ne);
     same = λ d c s e.
-        by_answer d c (λ o. successor o ≡ Some s → Next opens d e → e < 35430 → months_of (w.on e s) ≡ months_of o) (λ q n l. nothing s q)
+        by_answer d c (λ o. successor o ≡ Some s → Next opens d e → e < 35430 → months_of (w.on e s) ≡ months_of o) (λ q n l. absurd (none-some s q))
         (λ a h q n l. ap months_of (on-answered e s (record { from = omega (arith, a.from, n.after); to = l; opened = n.inside }) ((k.ranges d c a h).next s q)) ∙ ap Some (k.same d c s e a h q n l));
     stays = λ d e.
-        let a = by-day d e in
+        let a = answered-day opens d e in
         ap successor (on-answered d settling a k.settles) ∙ k.stays d a ∙ ap (λ (b : Bool). cond b None (Some settling)) (any-ext classes _ _ (λ c l. ap (λ (o : Option ClassTerms). not (eqb c settling) && names (successor o) settling) (sym (on-answered d c a l))));
     apart = λ d c e s.
-        by_answer d c (λ o. successor o ≡ Some s → successor (w.on d e) ≡ Some s → c ≡ e) (λ p q. nothing s p)
-        (λ a h p. by_answer d e (λ o. successor o ≡ Some s → c ≡ e) (λ q. nothing s q) (λ _ l q. k.apart d c e s a h l p q));
+        by_answer d c (λ o. successor o ≡ Some s → successor (w.on d e) ≡ Some s → c ≡ e) (λ p q. absurd (none-some s p))
+        (λ a h p. by_answer d e (λ o. successor o ≡ Some s → c ≡ e) (λ q. absurd (none-some s q)) (λ _ l q. k.apart d c e s a h l p q));
     untraded = λ d. by_answer d settling (λ o. tradable o ≡ false) refl (λ a h. k.untraded d a);
     later = λ d c i m ne.
         by_answer d settling (λ o. has o i ≡ true → has (w.on d c) m ≡ true → i < m) (λ p q. one_way p)

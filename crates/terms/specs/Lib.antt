@@ -4,3 +4,4 @@ pub mod Quantities
 pub mod Chain
 pub mod Listing
 pub mod Heirs
+pub mod Period

@@ -1,8 +1,10 @@
 // For which days and classes terms answer.
-ghost use Rattle.std.specs.Prelude.{◌≡◌};
+ghost use Rattle.std.specs.Prelude.{◌≡◌, ◌<◌, ◌≤◌, is_some, IfSome};
+ghost use Rattle.calendars.specs.Walks.{left};
+ghost use Rattle.dates.specs.Dates.{month_of};
 ghost use Rattle.terms.specs.Listing.{answers_for};
 
-use calendars::Calendar;
+use calendars::{Calendar, OpenDays};
 
 // The first day of 2001, and that of 2097.
 const FIRST_DAY: u32 = 366;
@@ -13,5 +15,34 @@ const END: u32 = 35_430;
 pub fn answers_for<C: Calendar>(calendar: &C, classes: u32, day: u32, class: u32) -> bool
     ensures { result ≡ answers_for (C.opens calendar.now) classes day class }
 {
-    day >= FIRST_DAY && day < END && calendar.is_open(day) && class < classes
+    (FIRST_DAY..END).contains(&day) && calendar.is_open(day) && class < classes
+}
+
+// A day in its month: the month, which is one of 2001 to 2096, and how many open days are left in it after the day.
+#[derive(Clone, Copy, PartialEq, Eq, Debug)]
+pub struct DayInMonth {
+    pub month: u32,
+    pub left: u32,
+    ghost in_range: { (12 ≤ month) × (month < 1164) },
+}
+
+// A day in its month, where terms over a calendar, with so many classes, answer for a class on it.
+pub fn answered_day<C: Calendar>(
+    calendar: &C,
+    classes: u32,
+    day: u32,
+    class: u32,
+) -> Option<DayInMonth>
+    ensures answers { is_some result ≡ answers_for (C.opens calendar.now) classes day class }
+    ensures class { IfSome result (λ d. class < classes) }
+    ensures month { IfSome result (λ d. d.month ≡ month_of day) }
+    ensures left { IfSome result (λ d. d.left ≡ left (C.opens calendar.now) day) }
+{
+    if !answers_for(calendar, classes, day, class) {
+        return None;
+    }
+    Some(DayInMonth {
+        month: dates::month_of(day)?,
+        left: calendars::count_left(&OpenDays { calendar }, day)?,
+    })
 }

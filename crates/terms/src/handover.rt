@@ -1,59 +1,31 @@
 // Where a month goes when the day is closed.
-ghost use Rattle.std.specs.Prelude.{◌≡◌};
-ghost use Rattle.terms.specs.Heirs.{part_with, heir_of, MonthsFollow};
-ghost use Rattle.terms.specs.Meaning.{has, is_part, has_some_part, successor};
+ghost use Rattle.std.specs.Prelude.{◌≡◌, ◌&&◌, Some};
+ghost use Rattle.calendars.specs.Walks.{first_from};
+ghost use Rattle.terms.specs.Heirs.{heir_of, MonthsFollow};
+ghost use Rattle.terms.specs.Meaning.{has, is_part, successor};
 
+use crate::class_terms::ClassTerms;
 use crate::terms::Terms;
 
 fn has_month<T: Terms>(terms: &T, day: u32, class: u32, month: u32) -> bool
     ensures { result ≡ has ((T.meaning terms.now).on day class) month }
 {
-    match terms.class_on(day, class) {
-        Some(class) => month >= class.months.first
-            && month - class.months.first < class.months.count,
-        None => false,
-    }
-}
-
-fn is_part<T: Terms>(terms: &T, day: u32, class: u32, part: u32) -> bool
-    ensures { result ≡ is_part ((T.meaning terms.now).on day class) part }
-{
-    match terms.class_on(day, class) {
-        Some(class) => part < 12 && class.parts[part as usize],
-        None => false,
-    }
+    terms
+        .class_on(day, class)
+        .is_some_and(|class| class.months.contains(month))
 }
 
 fn successor_of<T: Terms>(terms: &T, day: u32, class: u32) -> Option<u32>
     ensures { result ≡ successor ((T.meaning terms.now).on day class) }
 {
-    match terms.class_on(day, class) {
-        Some(class) => class.successor,
-        None => None,
-    }
-}
-
-fn has_parts<T: Terms>(terms: &T, day: u32, class: u32) -> bool
-    ensures { result ≡ has_some_part ((T.meaning terms.now).on day class) }
-{
-    for part in 0..12 {
-        if is_part(terms, day, class, part) {
-            return true;
-        }
-    }
-    false
+    terms.class_on(day, class).and_then(|class| class.successor)
 }
 
 // The part of a class that has a month.
-fn part_with<T: Terms>(terms: &T, day: u32, class: u32, month: u32) -> Option<u32>
-    ensures { result ≡ part_with (T.meaning terms.now) day class month }
+fn part_with<T: Terms>(terms: &T, day: u32, class: &ClassTerms, month: u32) -> Option<u32>
+    ensures { result ≡ first_from (λ p. is_part (Some class.now) p && has ((T.meaning terms.now).on day p) month) 0 12 }
 {
-    for part in 0..12 {
-        if is_part(terms, day, class, part) && has_month(terms, day, part, month) {
-            return Some(part);
-        }
-    }
-    None
+    (0..12).find(|part| class.is_part(*part) && has_month(terms, day, *part, month))
 }
 
 // The class to which a class hands a month over at the day's close: its successor, or, where it has parts, that of the
@@ -62,11 +34,10 @@ pub fn heir<T: Terms>(terms: &T, day: u32, class: u32, month: u32) -> Option<u32
     ensures is { result ≡ heir_of (T.meaning terms.now) day class month }
     ensures law { MonthsFollow (T.meaning terms.now) }
 {
-    if !has_parts(terms, day, class) {
-        return successor_of(terms, day, class);
-    }
-    match part_with(terms, day, class, month) {
-        Some(part) => successor_of(terms, day, part),
-        None => None,
+    let class = terms.class_on(day, class)?;
+    if class.has_parts() {
+        successor_of(terms, day, part_with(terms, day, &class, month)?)
+    } else {
+        class.successor
     }
 }

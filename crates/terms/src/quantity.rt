@@ -1,17 +1,10 @@
 // The quantity of a class: that of its months together.
-ghost use Rattle.std.specs.Prelude.{◌≡◌, ◌*◌, ◌≤◌, nat_lt};
-ghost use Rattle.dates.specs.Dates.{when};
-ghost use Rattle.std.specs.Option.{unwrap_or};
+ghost use Rattle.std.specs.Prelude.{◌≡◌, ◌≤◌};
 ghost use Rattle.terms.specs.Meaning.{class_quantity};
 ghost use Rattle.terms.specs.Quantities.{PartsAndSuccessors};
 
+use crate::class_terms::Months;
 use crate::terms::Terms;
-
-fn month_or_none<T: Terms>(terms: &T, month: u32) -> u32
-    ensures { result ≡ unwrap_or (when (nat_lt month 1200) ((T.meaning terms.now).quantity month)) 0 }
-{
-    terms.month_quantity(month).unwrap_or(0)
-}
 
 // The quantity of one lot in a class on a day; 0 where terms do not answer. For all terms, a class with parts has as
 // much as its parts together, and a successor as much as the class that it succeeds.
@@ -23,10 +16,10 @@ pub fn quantity_of<T: Terms>(terms: &T, day: u32, class: u32) -> u32
     let Some(class) = terms.class_on(day, class) else {
         return 0;
     };
-    let first = class.months.first;
+    let Months { first, count } = class.months;
     let mut sum = 0;
-    for i in 0..class.months.count {
-        sum += month_or_none(terms, first + i);
+    for month in first..first + count {
+        sum += terms.month_quantity(month).unwrap_or(0);
     }
     sum
 }

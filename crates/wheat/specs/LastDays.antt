@@ -3,6 +3,7 @@ use Rattle.std.specs.Prelude.{◌≡◌, ℕ, zero, suc, ◌+◌, ◌-◌, ◌<�
 use Rattle.std.proofs.Math.Path.{refl, ap, subst}
 use Rattle.std.proofs.Common.{sym, ◌∙◌, ⊎_elim, add-zero, arith}
 use Rattle.std.proofs.lemmas.Bool.{cases_lt, cases_Bool, cases_eq, cond_below, cond_above}
+use Rattle.std.proofs.lemmas.Option.{none-some}
 use Rattle.std.specs.Option.{unwrap_or}
 use Rattle.dates.specs.Dates.{when, start}
 use Rattle.dates.proofs.MonthLaws.{start-next, start-rises, start-last, days-bounds, told}
@@ -39,7 +40,7 @@ module _ (f : ℕ → Bool) where
   -- a last trading day is that of one of the expiries
   pub last-told : (k x : ℕ) → last_trading_day f k ≡ Some x → (k < 400) × (last_day f k ≡ x)
   last-told k x e =
-      (⊎_elim (λ h. h) (λ h. let n = no_answer k h in absurd (let z : ◌≡◌ {A = ℕ} 0 1 = cc in omega arith)) (cases_lt k 400), ap (λ o. unwrap_or o 36525) e)
+      (⊎_elim (λ h. h) (λ h. absurd (none-some x (no_answer k h ∙ e))) (cases_lt k 400), ap (λ o. unwrap_or o 36525) e)
 
   module _ (four : Four f) where
     -- every expiry has a last trading day, in its month

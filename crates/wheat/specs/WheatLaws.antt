@@ -13,7 +13,7 @@ use Rattle.terms.specs.Listing.{answers_for}
 use Rattle.terms.specs.Meaning.{answers, any_below, one, months_of, successor}
 use Rattle.terms.specs.declared.class_terms.Months.{Months}
 use Rattle.terms.proofs.Chains.{moved, apart}
-use Rattle.terms.proofs.Listings.{no_part, Answered, Kept, laws, on-answered}
+use Rattle.terms.proofs.Listings.{no_part, answered-day, Kept, laws, on-answered}
 use Rattle.wheat.specs.Wheat.{expiry_month, tenth, last_day, front_expiry, wheat_chain, wheat_class, wheat, FrontIsFirstNotPast}
 use Rattle.wheat.specs.ExpiryMonths.{expiry-near}
 use Rattle.wheat.specs.LastDays.{last-is, last-told}
@@ -80,37 +80,31 @@ module _ (f : ℕ → Bool) (law : Lawful f) where
   pub wheat-laws : Laws (wheat f)
   wheat-laws = laws f 6 5 (λ _. 50) (wheat_class f) kept
 
-  answered : (d : ℕ) → answers (wheat f) d ≡ true → Answered f d
-  answered d e =
-      let a = and_parts _ _ e in
-      let b = and_parts _ _ a.1 in
-      record { from = leb-true 366 d a.0; to = ltb-true d 35430 b.0; opened = b.1 }
-
   -- what is known of a class that is answered
   pub class-range : (d c k : ℕ) → answers_for f 6 d c ≡ true → Some k ≡ when (nat_lt d 36525) (front_expiry f d) → (d < 36525) × ((0 < k) × ((k < 396) × (c < 6)))
   class-range d c k e q =
       let t = and_parts _ _ e in
-      let b = front-bounds f law.four d (answered d t.0) in
+      let b = front-bounds f law.four d (answered-day f d t.0) in
       let u = told (nat_lt d 36525) k (front_expiry f d) q in
       (ltb-true d 36525 u.0, (omega (arith, u.1), (omega (arith, u.1), ltb-true c 6 t.1)))
 
   on : (d c : ℕ) → answers (wheat f) d ≡ true → c < 6 → (wheat f).on d c ≡ Some (wheat_class f d c)
-  on d c e h = on-answered f 6 5 (λ _. 50) (wheat_class f) d c (answered d e) h
+  on d c e h = on-answered f 6 5 (λ _. 50) (wheat_class f) d c (answered-day f d e) h
 
   pub front-law : FrontIsFirstNotPast f
   front-law = record {
     in_month = λ k h. let l = last-is f law.four k h in subst (λ (o : Option ℕ). MatchOption o ⊥ (First f (tenth k) (start (expiry_month k + 1)))) (sym l.0) l.1;
     month = λ d e. ap months_of (on d 0 e (lit≤ tt)) ∙ (let z : front_expiry f d + 1 - 1 ≡ front_expiry f d = omega arith in rw z);
     past = λ d k x e h q.
-        let a = answered d e in
+        let a = answered-day f d e in
         omega (arith, (last-told f k x q).1, front-past f law.four d a k h);
     ahead = λ d k x e h q.
-        let a = answered d e in
+        let a = answered-day f d e in
         let t = last-told f k x q in
         omega (arith, t.1, front-ahead f law.four d a k t.0 h);
     moves = λ d c e h q. ap successor (on d c e h) ∙ cond-true _ _ _ (eq-eqb _ d (last-told f _ d q).1);
     stays = λ d c e h q.
-        let a = answered d e in
+        let a = answered-day f d e in
         let b = front-bounds f law.four d a in
         let l = (last-is f law.four (front_expiry f d) (omega arith)).0 in
         ap successor (on d c e h) ∙ cond-false _ _ _ (ne_eqb _ d (λ z. q (l ∙ ap Some z)));

@@ -3,39 +3,74 @@ ghost use Rattle.std.specs.Prelude.{◌≡◌, ◌<◌, ◌≤◌};
 ghost use Rattle.std.specs.Option.{option_map};
 ghost use Rattle.wheat.specs.Wheat.{wheat_chain, class_name};
 
+use terms::{ClassRow, Period};
+
 pub(crate) const CLASSES: u32 = 6;
 
 pub(crate) const T01: u32 = 0;
 
+const T02: u32 = 1;
+
+const T03: u32 = 2;
+
+const T04: u32 = 3;
+
 pub(crate) const DEL: u32 = 5;
 
-// The names of the classes, by number.
-const NAMES: [&str; 6] = ["T01", "T02", "T03", "T04", "T05", "DEL"];
+// The classes, by number. A class's place tells how many expiries it stands after the one before T01's.
+const ROWS: [ClassRow; 6] = [
+    ClassRow {
+        name: "T01",
+        period: Period::Month,
+        place: 1,
+        earlier: Some(DEL),
+    },
+    ClassRow {
+        name: "T02",
+        period: Period::Month,
+        place: 2,
+        earlier: Some(T01),
+    },
+    ClassRow {
+        name: "T03",
+        period: Period::Month,
+        place: 3,
+        earlier: Some(T02),
+    },
+    ClassRow {
+        name: "T04",
+        period: Period::Month,
+        place: 4,
+        earlier: Some(T03),
+    },
+    ClassRow {
+        name: "T05",
+        period: Period::Month,
+        place: 5,
+        earlier: Some(T04),
+    },
+    ClassRow {
+        name: "DEL",
+        period: Period::Month,
+        place: 0,
+        earlier: None,
+    },
+];
 
-// How many expiries each class stands after the one before T01's.
-const PLACES: [u32; 6] = [1, 2, 3, 4, 5, 0];
-
-// The class with the expiry before each class's.
-const EARLIER: [Option<u32>; 6] = [Some(5), Some(0), Some(1), Some(2), Some(3), None];
-
-pub(crate) fn place(class: u32) -> u32
+// The row of a class.
+pub(crate) fn row(class: u32) -> ClassRow
     requires { class < 6 }
-    ensures is { result ≡ wheat_chain.place class }
-    ensures bound { result ≤ 5 }
+    ensures period { result.period ≡ Period.Month }
+    ensures place { result.place ≡ wheat_chain.place class }
+    ensures earlier { result.earlier ≡ wheat_chain.earlier class }
+    ensures bound { result.place ≤ 5 }
 {
-    PLACES[class as usize]
-}
-
-pub(crate) fn earlier(class: u32) -> Option<u32>
-    requires { class < 6 }
-    ensures { result ≡ wheat_chain.earlier class }
-{
-    EARLIER[class as usize]
+    ROWS[class as usize]
 }
 
 // The name of a class.
 pub fn class_name(class: u32) -> Option<&'static str>
     ensures { option_map (λ x. x.now) result ≡ class_name class }
 {
-    NAMES.get(class as usize).copied()
+    terms::class_name(&ROWS, class)
 }

@@ -4,16 +4,11 @@ use Rattle.wheat.specs.LastDays.{last-answer, no_answer, last-is, last-below}
 use Rattle.wheat.specs.WheatLaws.{front-law}
 use Rattle.wheat.proofs.expiries.last_trading_day.Goals as goal
 
-pub returns-in_err-tenth : goal.returns-in_err-tenth
-returns-in_err-tenth g c =
-    let f = g.C.Calendar.opens c.args.calendar.now in
-    let k = c.args.expiry in
-    let h = c.in_err-tenth.ensures.range in
-    record {
-      is = c.from_residual.ensures ∙ no_answer f k h;
-      bound = subst (λ (o : Option ℕ). MatchOption o (400 ≤ k) (λ d. d < 36525)) (sym c.from_residual.ensures) h;
-      law = front-law f (g.met.C.Calendar.lawful c.args.calendar.now);
-    }
+pub returns-in_err-tenth-clause-is : goal.returns-in_err-tenth-clause-is
+returns-in_err-tenth-clause-is g c = c.from_residual.ensures ∙ no_answer _ _ c.in_err-tenth.ensures.range
+
+pub returns-in_err-tenth-clause-law : goal.returns-in_err-tenth-clause-law
+returns-in_err-tenth-clause-law g c = front-law _ (g.met.C.Calendar.lawful c.args.calendar.now)
 
 pub returns : goal.returns
 returns g c =
