@@ -1,19 +1,20 @@
 -- Loops over the classes: tests, the class that is succeeded, sums, tables. Assumes nothing.
-use Rattle.std.proofs.Common.{◌≡◌, ℕ, zero, suc, ◌+◌, ◌*◌, ◌^◌, ◌<◌, ◌≤◌, Bool, true, false, cond, not, ◌&&◌, eqb, List, map, length, get_or, set, ℤ, ◌+ℤ◌, nat_abs, Some, None, Option, sym, refl, ap, ◌∙◌, subst, ⊎_elim, mul-le-mul_left, mul-add, add-one, arith, length-set, SFits, to_z, of_z}
+use Rattle.std.proofs.Common.{◌≡◌, ℕ, zero, suc, ◌+◌, ◌*◌, ◌^◌, ◌<◌, ◌≤◌, Bool, true, false, cond, MatchBool, not, ◌&&◌, eqb, List, map, length, get_or, set, ℤ, ◌+ℤ◌, nat_abs, Some, None, Option, sym, refl, ap, ◌∙◌, subst, ⊎_elim, mul-le-mul_left, mul-add, zero-add, add-one, arith, length-set, SFits, to_z, of_z}
 use mir.Syntax.{Width, w128}
 use mir.Val.{hbits}
 use Rattle.amounts.proofs.Exact.{small-fits, added}
 use Rattle.amounts.specs.SumsOfWhole.{sum_z}
+use Rattle.ledger.proofs.Tests.{all-not}
 use Rattle.ledger.specs.Calls.{source_below}
 use Rattle.ledger.specs.Words.{all_below}
 use Rattle.closing.specs.Closing.{successors_on}
-use Rattle.std.proofs.lemmas.List.FromFn.{fill_by_all, get_or-map-range_with_len}
+use Rattle.std.proofs.lemmas.List.FromFn.{fill_by_all, get_or-map-range_with_len, length-range_with_len, get_or-range_with_len}
 use Rattle.std.proofs.lemmas.List.Edits.{fill_by_more}
 use Rattle.std.proofs.lemmas.Int.{ints, to_z-of_z}
 use Rattle.std.proofs.lemmas.Bool.{cases_eq, and_from, and_left, and_right, eq-eqb, ne_eqb, not_from_true, not_from_false, cond-true, cond-false}
 use Rattle.std.specs.Array.{IsFromFnResultFrom, IsFromFnResult}
 use Rattle.std.specs.Fn.{Mut, Called}
-use Rattle.std.specs.List.{range_with_len}
+use Rattle.std.specs.List.{range_with_len, AllWithin, HoldsAt}
 use Rattle.terms.specs.Laws.{Laws, names}
 use Rattle.terms.specs.Meaning.{Meaning, successor}
 
@@ -25,6 +26,21 @@ all_end m f n e h = subst (λ k. all_below k f ≡ true) e h
 pub cond_same : {A : Type 0} (b : Bool) (x : A) → cond b x x ≡ x
 cond_same true x = refl
 cond_same false x = refl
+
+all-pass : (n : ℕ) (f : ℕ → Bool) → ((k : ℕ) → k < n → f k ≡ true) → all_below n f ≡ true
+all-pass zero f h = refl
+all-pass (suc n) f h = λ i. all-pass n f (λ k l. h k (omega arith)) i && h n (omega arith) i
+
+-- what `all` answers over the numbers below n
+pub all-is : (f : ℕ → Bool) (n : ℕ) (r : Bool) → MatchBool r (AllWithin (λ m. f m ≡ true) (range_with_len 0 n) 0 (length (range_with_len 0 n))) ((i : ℕ) × (i < length (range_with_len 0 n)) × HoldsAt (λ m. f m ≡ false) (range_with_len 0 n) i) → r ≡ all_below n f
+all-is f n true h =
+    sym (all-pass n f (λ m l.
+    let e : get_or (range_with_len 0 n) m 0 ≡ m = get_or-range_with_len 0 n m 0 l ∙ zero-add m in
+    rw e at (h m 0 (omega arith) (omega (arith, length-range_with_len 0 n)))))
+all-is f n false h =
+    let l : h.0 < n = omega (arith, length-range_with_len 0 n) in
+    let e : get_or (range_with_len 0 n) h.0 0 ≡ h.0 = get_or-range_with_len 0 n h.0 0 l ∙ zero-add h.0 in
+    sym (all-not n f h.0 l (rw e at (h.2 0)))
 
 -- ---- the class that is succeeded: the next one, or not
 

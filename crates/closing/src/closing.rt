@@ -31,51 +31,33 @@ pub struct Closing {
     pub next: Option<u32>,
 }
 
+// What the terms do not have is not tradable, has no part and hands over to none.
 fn is_tradable(class: Option<ClassTerms>) -> bool
     ensures { result ≡ tradable class }
 {
-    match class {
-        Some(class) => class.tradable,
-        None => false,
-    }
+    class.is_some_and(|class| class.tradable)
 }
 
 fn parts_of(class: Option<ClassTerms>) -> [bool; 12]
     ensures { result ≡ parts_of class }
 {
+    // A `match`: of `map_or` with a row as its default the check finds no proof.
     match class {
         Some(class) => class.parts,
         None => [false; 12],
     }
 }
 
-fn any(parts: &[bool; 12]) -> bool
-    ensures { result ≡ any_below 12 (λ p. slice_index_or parts.now p false) }
-{
-    for p in 0..12 {
-        if parts[p] {
-            return true;
-        }
-    }
-    false
-}
-
 fn has_parts(class: Option<ClassTerms>) -> bool
     ensures { result ≡ has_some_part class }
 {
-    match class {
-        Some(class) => any(&class.parts),
-        None => false,
-    }
+    class.is_some_and(|class| class.has_parts())
 }
 
 fn successor_of(class: Option<ClassTerms>) -> Option<u32>
     ensures { result ≡ successor class }
 {
-    match class {
-        Some(class) => class.successor,
-        None => None,
-    }
+    class.and_then(|class| class.successor)
 }
 
 // The successor of each class.
@@ -88,10 +70,7 @@ fn successors<T: Terms>(terms: &T, day: u32) -> [Option<u32>; 12]
 fn is_named(answer: Option<u32>, class: u32) -> bool
     ensures { result ≡ names answer class }
 {
-    match answer {
-        Some(other) => other == class,
-        None => false,
-    }
+    answer == Some(class)
 }
 
 // The class to which a class is the successor.
@@ -150,16 +129,6 @@ fn class_closing<T: Terms>(
     }
 }
 
-const NO_CLASS: ClassClosing = ClassClosing {
-    in_use: false,
-    tradable: false,
-    quantity: 0,
-    parts: [false; 12],
-    has_parts: false,
-    source: None,
-    tradable_next: false,
-};
-
 // Each class on a day; `next` is the next open day.
 fn class_closings<T: Terms>(
     terms: &T,
@@ -170,11 +139,7 @@ fn class_closings<T: Terms>(
     requires { (next ≡ next_day (T.meaning terms.now) day) × (successors.now ≡ successors_on (T.meaning terms.now) day) }
     ensures { result ≡ map (class_closing (T.meaning terms.now) day) (range_with_len 0 12) }
 {
-    let mut all = [NO_CLASS; 12];
-    for c in 0..12 {
-        all[c as usize] = class_closing(terms, successors, day, next, c);
-    }
-    all
+    array::from_fn(|class| class_closing(terms, successors, day, next, class as u32))
 }
 
 impl Closing {

@@ -5,3 +5,4 @@ mod moves;
 mod pays;
 
 pub use closing::{ClassClosing, Closing};
+pub use pays::Rows;

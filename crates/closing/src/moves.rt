@@ -7,6 +7,7 @@ ghost use Rattle.ledger.specs.Words.{from, within, at};
 
 use crate::closing::Closing;
 use ledger::ClassPrices;
+use std::array;
 
 // Whether lots stay within a limit, long and short.
 fn is_within(limit: u16, lots: i64) -> bool
@@ -21,23 +22,14 @@ impl Closing {
         requires { class < 12 }
         ensures { result ≡ priced_by self.now prices.now class }
     {
-        if self.classes[class].tradable {
-            prices[class].today.is_some()
-        } else {
-            true
-        }
+        !self.classes[class].tradable || prices[class].today.is_some()
     }
 
     // Whether every tradable class has a price today.
     pub fn all_priced(&self, prices: &[ClassPrices; 12]) -> bool
         ensures { result ≡ all_priced self.now prices.now }
     {
-        for class in 0..12 {
-            if !self.is_priced(prices, class) {
-                return false;
-            }
-        }
-        true
+        (0..12).all(|class| self.is_priced(prices, class))
     }
 
     // What a class gives one of its parts.
@@ -82,33 +74,21 @@ impl Closing {
         requires { class < 12 }
         ensures { result ≡ stays_by self.now limit lots.now class }
     {
-        if !self.classes[class].in_use {
-            return true;
-        }
-        is_within(limit, self.after_parts(lots, class))
+        !self.classes[class].in_use || is_within(limit, self.after_parts(lots, class))
     }
 
     // Whether an account's lots stay within a limit after the parts, long and short.
     pub fn keeps_limit(&self, limit: u16, lots: &[i32; 12]) -> bool
         ensures { result ≡ keeps_limit self.now limit lots.now }
     {
-        for class in 0..12 {
-            if !self.class_keeps(limit, lots, class) {
-                return false;
-            }
-        }
-        true
+        (0..12).all(|class| self.class_keeps(limit, lots, class))
     }
 
     // The same for each class.
     fn after_parts_lots(&self, lots: &[i32; 12]) -> [i64; 12]
         ensures { result ≡ after_parts_lots self.now lots.now }
     {
-        let mut all = [0; 12];
-        for class in 0..12 {
-            all[class] = self.after_parts(lots, class);
-        }
-        all
+        array::from_fn(|class| self.after_parts(lots, class))
     }
 }
 
@@ -116,38 +96,28 @@ impl Closing {
 fn row_at(row: &[i64; 12], class: u32) -> i64
     ensures { result ≡ at row.now class }
 {
-    if class < 12 { row[class as usize] } else { 0 }
+    row.get(class as usize).copied().unwrap_or(0)
 }
 
 // What stands at a class that may be none.
 fn row_from(row: &[i64; 12], source: Option<u32>) -> i64
     ensures { result ≡ from source (pos 0) (at row.now) }
 {
-    match source {
-        Some(class) => row_at(row, class),
-        None => 0,
-    }
+    source.map_or(0, |class| row_at(row, class))
 }
 
 // The repricing of a class, and none past the table.
 fn repriced_at(prices: &[ClassPrices; 12], class: u32) -> Option<i32>
     ensures { result ≡ (prices_at prices.now class).repriced }
 {
-    if class < 12 {
-        prices[class as usize].repriced
-    } else {
-        None
-    }
+    prices.get(class as usize).and_then(|prices| prices.repriced)
 }
 
 // The repricing of a class that may be none.
 fn repriced_from(prices: &[ClassPrices; 12], source: Option<u32>) -> Option<i32>
     ensures { result ≡ from source None (λ c. (prices_at prices.now c).repriced) }
 {
-    match source {
-        Some(class) => repriced_at(prices, class),
-        None => None,
-    }
+    source.and_then(|class| repriced_at(prices, class))
 }
 
 impl Closing {
@@ -166,10 +136,7 @@ impl Closing {
     fn newest_from(&self, prices: &[ClassPrices; 12], source: Option<u32>) -> Option<i32>
         ensures { result ≡ from source None (newest_by self.now prices.now) }
     {
-        match source {
-            Some(class) => self.newest_at(prices, class),
-            None => None,
-        }
+        source.and_then(|class| self.newest_at(prices, class))
     }
 
     // The lots of a class on the next open day; `after` are the lots after the parts.
@@ -185,11 +152,7 @@ impl Closing {
         ensures { result ≡ moved_lots self.now lots.now }
     {
         let after = self.after_parts_lots(lots);
-        let mut all = [0; 12];
-        for class in 0..12 {
-            all[class] = self.moved(&after, class);
-        }
-        all
+        array::from_fn(|class| self.moved(&after, class))
     }
 
     // The prices of a class on the next open day.
@@ -214,15 +177,6 @@ impl Closing {
     pub fn moved_prices(&self, prices: &[ClassPrices; 12]) -> [ClassPrices; 12]
         ensures { result ≡ moved_prices self.now prices.now }
     {
-        let none = ClassPrices {
-            last: None,
-            today: None,
-            repriced: None,
-        };
-        let mut all = [none; 12];
-        for class in 0..12 {
-            all[class] = self.class_prices(prices, class);
-        }
-        all
+        array::from_fn(|class| self.class_prices(prices, class))
     }
 }

@@ -1,21 +1,26 @@
 // What the close pays an account: variation margin and parts.
 ghost use Rattle.std.specs.Prelude.{◌≡◌, ◌*◌, ◌^◌, ◌<◌, ◌≤◌, unsigned_abs};
 ghost use Rattle.amounts.specs.SumsOfWhole.{sum_z};
-ghost use Rattle.closing.specs.Closing.{newest_by, variation_by, part_of, part_by, paid_by};
 ghost use Rattle.ledger.specs.Words.{or_zero};
+ghost use Rattle.closing.specs.Closing.{newest_by, variation_by, part_of, part_by, paid_by};
 
 use crate::closing::Closing;
-use amounts::{part_payment, variation};
+use amounts::Holding;
 use ledger::ClassPrices;
+
+// What an account has by class: its lots now, and the day's trades in lots and at cost.
+#[derive(Clone, Copy)]
+pub struct Rows<'a> {
+    pub lots: &'a [i32; 12],
+    pub traded: &'a [i32; 12],
+    pub cost: &'a [i64; 12],
+}
 
 // A missing price counts as 0.
 fn or_zero(price: Option<i32>) -> i32
     ensures { result ≡ or_zero price }
 {
-    match price {
-        Some(price) => price,
-        None => 0,
-    }
+    price.unwrap_or(0)
 }
 
 impl Closing {
@@ -32,47 +37,32 @@ impl Closing {
     }
 
     // The variation margin of a class, where it is tradable.
-    fn class_variation(
-        &self,
-        prices: &[ClassPrices; 12],
-        lots: &[i32; 12],
-        traded: &[i32; 12],
-        cost: &[i64; 12],
-        class: usize,
-    ) -> i128
+    fn class_variation(&self, prices: &[ClassPrices; 12], rows: &Rows<'_>, class: usize) -> i128
         requires { class < 12 }
-        ensures is { result ≡ variation_by self.now prices.now lots.now traded.now cost.now class }
+        ensures is { result ≡ variation_by self.now prices.now rows.now.lots.now rows.now.traded.now rows.now.cost.now class }
         ensures bound { unsigned_abs result ≤ 2 ^ 98 }
     {
         if !self.classes[class].tradable {
             return 0;
         }
+        let holding = Holding {
+            quantity: self.classes[class].quantity,
+            lots: rows.lots[class],
+        };
         let today = or_zero(prices[class].today);
         let last = or_zero(prices[class].last);
-        variation(
-            self.classes[class].quantity,
-            today,
-            lots[class],
-            last,
-            traded[class],
-            cost[class],
-        )
+        holding.variation(today, last, rows.traded[class], rows.cost[class])
     }
 
     // The same over all classes.
-    fn variations(
-        &self,
-        prices: &[ClassPrices; 12],
-        lots: &[i32; 12],
-        traded: &[i32; 12],
-        cost: &[i64; 12],
-    ) -> i128
-        ensures is { result ≡ sum_z 12 (variation_by self.now prices.now lots.now traded.now cost.now) }
+    fn variations(&self, prices: &[ClassPrices; 12], rows: &Rows<'_>) -> i128
+        ensures is { result ≡ sum_z 12 (variation_by self.now prices.now rows.now.lots.now rows.now.traded.now rows.now.cost.now) }
         ensures bound { unsigned_abs result ≤ 2 ^ 98 * 12 }
     {
+        // A loop, here and below: of a sum of signed numbers the library says no bound.
         let mut sum = 0;
         for class in 0..12 {
-            sum += self.class_variation(prices, lots, traded, cost, class);
+            sum += self.class_variation(prices, rows, class);
         }
         sum
     }
@@ -100,9 +90,13 @@ impl Closing {
         if !self.is_part(class, part) {
             return 0;
         }
+        let holding = Holding {
+            quantity: self.classes[part].quantity,
+            lots: lots[class],
+        };
         let new = or_zero(self.newest(prices, part));
         let old = or_zero(self.newest(prices, class));
-        part_payment(self.classes[part].quantity, lots[class], new, old)
+        holding.part_payment(new, old)
     }
 
     // The same over the parts of a class.
@@ -131,16 +125,10 @@ impl Closing {
     }
 
     // What an account with these rows is paid.
-    pub fn pays(
-        &self,
-        prices: &[ClassPrices; 12],
-        lots: &[i32; 12],
-        traded: &[i32; 12],
-        cost: &[i64; 12],
-    ) -> i128
-        ensures is { result ≡ paid_by self.now prices.now lots.now traded.now cost.now }
+    pub fn pays(&self, prices: &[ClassPrices; 12], rows: &Rows<'_>) -> i128
+        ensures is { result ≡ paid_by self.now prices.now rows.now.lots.now rows.now.traded.now rows.now.cost.now }
         ensures bound { unsigned_abs result ≤ 2 ^ 110 }
     {
-        self.variations(prices, lots, traded, cost) + self.parts(prices, lots)
+        self.variations(prices, rows) + self.parts(prices, rows.lots)
     }
 }

@@ -1,9 +1,7 @@
-use Rattle.std.proofs.Common.{arith}
-use Rattle.closing.proofs.Loops.{fill-turn, fill_end}
+use Rattle.std.proofs.Common.{rules}
+use Rattle.closing.specs.Closing.{class_closing, no_class}
+use Rattle.closing.proofs.Loops.{made-by}
 use Rattle.closing.proofs.closing.class_closings.Goals as goal
 
-pub loop-c-preserved : goal.loop-c-preserved
-loop-c-preserved g c = fill-turn _ _ c.loop-c.c c.loop-c.all _ c.loop-c-test.true c.class_closing.ensures c.loop-c.invariant
-
 pub returns : goal.returns
-returns g c = fill_end _ _ c.loop-c.c c.loop-c.all (omega arith) c.loop-c.invariant
+returns g c = made-by _ _ (class_closing (g.T.Terms.meaning c.args.terms.now) c.args.day) (λ i y q k. (search rules, search rules)) c.from_fn.result 12 no_class c.from_fn.ensures.items

@@ -1,16 +1,11 @@
-use Rattle.std.proofs.Common.{sym, ◌∙◌, arith}
+use Rattle.std.proofs.Common.{◌≡◌, true, false, refl, rules}
+use Rattle.closing.proofs.Loops.{all-is}
 use Rattle.closing.specs.Closing.{stays_by, keeps_limit}
-use Rattle.ledger.proofs.Tests.{all-not, all_more}
-use Rattle.closing.proofs.Loops.{all_end}
+use Rattle.std.proofs.lemmas.Iterator.{cases_from_all, YieldsList-from_range}
 use Rattle.closing.proofs.closing.Closing.keeps_limit.Goals as goal
-
-pub returns-then-not-class_keeps : goal.returns-then-not-class_keeps
-unfolding keeps_limit
-returns-then-not-class_keeps c = sym (all-not 12 (stays_by c.args.self.now c.args.limit c.args.lots.now) c.loop-class.class (omega arith) (sym c.class_keeps.ensures ∙ c.if-not-class_keeps.true))
-
-pub loop-class-preserved : goal.loop-class-preserved
-loop-class-preserved c = all_more c.loop-class.class _ c.loop-class.invariant (sym c.class_keeps.ensures ∙ c.if-not-class_keeps.false)
 
 pub returns : goal.returns
 unfolding keeps_limit
-returns c = sym (all_end 12 (stays_by c.args.self.now c.args.limit c.args.lots.now) c.loop-class.class (omega arith) c.loop-class.invariant)
+returns c =
+    let f = stays_by c.args.self.now c.args.limit c.args.lots.now in
+    all-is f 12 c.all.result (cases_from_all _ _ _ (λ m. f m ≡ true) (λ m. f m ≡ false) c.all.ensures.ran (YieldsList-from_range 0 12 12 refl refl) (λ x q k. search rules) (λ x q k. search rules))
