@@ -1,5 +1,5 @@
 -- Loops over the classes: tests, the class that is succeeded, sums, tables. Assumes nothing.
-use Rattle.std.proofs.Common.{◌≡◌, ℕ, zero, suc, ◌+◌, ◌*◌, ◌^◌, ◌<◌, ◌≤◌, Bool, true, false, cond, MatchBool, not, ◌&&◌, eqb, List, map, length, get_or, set, ℤ, ◌+ℤ◌, nat_abs, Some, None, Option, sym, refl, ap, ◌∙◌, subst, ⊎_elim, mul-le-mul_left, mul-add, zero-add, add-one, arith, length-set, SFits, to_z, of_z}
+use Rattle.std.proofs.Common.{◌≡◌, ℕ, zero, suc, ◌+◌, ◌*◌, ◌^◌, ◌<◌, ◌≤◌, Bool, true, false, cond, MatchBool, MatchOption, ◌||◌, not, ◌&&◌, eqb, List, map, length, get_or, set, ℤ, ◌+ℤ◌, nat_abs, Some, None, Option, sym, refl, ap, ◌∙◌, subst, ⊎_elim, mul-le-mul_left, mul-add, zero-add, add-one, arith, length-set, SFits, to_z, of_z}
 use mir.Syntax.{Width, w128}
 use mir.Val.{hbits}
 use Rattle.amounts.proofs.Exact.{small-fits, added}
@@ -11,12 +11,13 @@ use Rattle.closing.specs.Closing.{successors_on}
 use Rattle.std.proofs.lemmas.List.FromFn.{fill_by_all, get_or-map-range_with_len, length-range_with_len, get_or-range_with_len}
 use Rattle.std.proofs.lemmas.List.Edits.{fill_by_more}
 use Rattle.std.proofs.lemmas.Int.{ints, to_z-of_z}
-use Rattle.std.proofs.lemmas.Bool.{cases_eq, and_from, and_left, and_right, eq-eqb, ne_eqb, not_from_true, not_from_false, cond-true, cond-false}
+use Rattle.std.proofs.lemmas.Bool.{cases_Bool, cases_eq, false≢true, cond-true, cond-false}
+use Rattle.terms.proofs.Handovers.{any_at}
 use Rattle.std.specs.Array.{IsFromFnResultFrom, IsFromFnResult}
 use Rattle.std.specs.Fn.{Mut, Called}
 use Rattle.std.specs.List.{range_with_len, AllWithin, HoldsAt}
 use Rattle.terms.specs.Laws.{Laws, names}
-use Rattle.terms.specs.Meaning.{Meaning, successor}
+use Rattle.terms.specs.Meaning.{Meaning, any_below, successor}
 
 -- ---- tests
 
@@ -42,35 +43,48 @@ all-is f n false h =
     let e : get_or (range_with_len 0 n) h.0 0 ≡ h.0 = get_or-range_with_len 0 n h.0 0 l ∙ zero-add h.0 in
     sym (all-not n f h.0 l (rw e at (h.2 0)))
 
--- ---- the class that is succeeded: the next one, or not
+-- what `any` answers over the numbers below n
+pub any-is : (f : ℕ → Bool) (n : ℕ) (r : Bool) → MatchBool r ((i : ℕ) × (i < length (range_with_len 0 n)) × HoldsAt (λ m. f m ≡ true) (range_with_len 0 n) i) (AllWithin (λ m. f m ≡ false) (range_with_len 0 n) 0 (length (range_with_len 0 n))) → r ≡ any_below n f
+any-is f n true h =
+    let l : h.0 < n = omega (arith, length-range_with_len 0 n) in
+    let e : get_or (range_with_len 0 n) h.0 0 ≡ h.0 = get_or-range_with_len 0 n h.0 0 l ∙ zero-add h.0 in
+    sym (any_at n f h.0 l (rw e at (h.2 0)))
+any-is f n false h =
+    sym (none-pass n (λ m l.
+    let e : get_or (range_with_len 0 n) m 0 ≡ m = get_or-range_with_len 0 n m 0 l ∙ zero-add m in
+    rw e at (h m 0 (omega arith) (omega (arith, length-range_with_len 0 n)))))
+  where
+    none-pass : (n : ℕ) → ((k : ℕ) → k < n → f k ≡ false) → any_below n f ≡ false
+    none-pass zero h = refl
+    none-pass (suc n) h = λ i. none-pass n (λ k l. h k (omega arith)) i || h n (omega arith) i
 
-pub source-found : (next : ℕ → Option ℕ) (t n : ℕ) → names (next n) t ≡ true → Some n ≡ source_below next t (n + 1)
-source-found next t n e = rw add-one (sym (cond-true (names (next n) t) (Some n) (source_below next t n) e))
+-- ---- the class that is succeeded: the one that names the class, which is the only one
 
-pub source-passed : (next : ℕ → Option ℕ) (t n : ℕ) → names (next n) t ≡ false → source_below next t n ≡ source_below next t (n + 1)
-source-passed next t n e = rw add-one (sym (cond-false (names (next n) t) (Some n) (source_below next t n) e))
+module _ (next : ℕ → Option ℕ) (t : ℕ) where
+  source-none : (n : ℕ) → ((k : ℕ) → k < n → names (next k) t ≡ false) → source_below next t n ≡ None
+  source-none zero h = refl
+  source-none (suc n) h = cond-false (names (next n) t) (Some n) (source_below next t n) (h n (omega arith)) ∙ source-none n (λ k l. h k (omega arith))
+
+  source-some : (n i : ℕ) → i < n → names (next i) t ≡ true → ((j : ℕ) → names (next j) t ≡ true → j ≡ i) → source_below next t n ≡ Some i
+  source-some zero i l e only = absurd (omega arith)
+  source-some (suc n) i l e only =
+      ⊎_elim
+      (λ (y : names (next n) t ≡ true). cond-true (names (next n) t) (Some n) (source_below next t n) y ∙ ap Some (only n y))
+      (λ (y : names (next n) t ≡ false).
+      let ne : i ≡ n → ⊥ = λ q. false≢true (sym y ∙ ap (λ k. names (next k) t) (sym q) ∙ e) in
+      cond-false (names (next n) t) (Some n) (source_below next t n) y ∙ source-some n i (omega arith) e only)
+      (cases_Bool (names (next n) t))
+
+  pub source-is-found : (n : ℕ) → ((i j : ℕ) → names (next i) t ≡ true → names (next j) t ≡ true → i ≡ j) → (r : Option ℕ) → MatchOption r ((k : ℕ) → 0 ≤ k → k < n → names (next k) t ≡ false) (λ i. (0 ≤ i) × (i < n) × (names (next i) t ≡ true) × ((k : ℕ) → 0 ≤ k → k < i → names (next k) t ≡ false)) → r ≡ source_below next t n
+  source-is-found n only None h = sym (source-none n (λ k l. h k (omega arith) l))
+  source-is-found n only (Some i) h = sym (source-some n i h.1 h.2 (λ j y. only j i y h.2))
 
 -- a class other than the settling class succeeds to it
-abbrev pub takes-over : Meaning → ℕ → ℕ → Bool
-takes-over w d c = not (eqb c w.settling) && names (successor (w.on d c)) w.settling
+abbrev pub takes_over : Meaning → ℕ → ℕ → Bool
+takes_over w d c = not (eqb c w.settling) && names (successor (w.on d c)) w.settling
 
-module _ (w : Meaning) (law : Laws w) (d c : ℕ) (all : List (Option ℕ)) (e : all ≡ successors_on w d) (h : c < w.classes) where
-  pub read-successor : get_or all c None ≡ successor (w.on d c)
-  read-successor = ap (λ (l : List (Option ℕ)). get_or l c None) e ∙ get_or-map-range_with_len (λ c. successor (w.on d c)) 0 12 c c None (omega (arith, law.twelve)) (omega arith)
-
-  module _ (s : ℕ) (q : s ≡ w.settling) where
-    takes-over-is : takes-over w d c ≡ (not (eqb c s) && names (get_or all c None) s)
-    takes-over-is = λ i. not (eqb c (sym q i)) && names (sym read-successor i) (sym q i)
-
-    module _ (r : Bool) (named : r ≡ names (get_or all c None) s) where
-      pub takes-over-yes : (c ≡ s → ⊥) → r ≡ true → takes-over w d c ≡ true
-      takes-over-yes n y = takes-over-is ∙ and_from (not (eqb c s)) (names (get_or all c None) s) (not_from_false (eqb c s) (ne_eqb c s n)) (sym named ∙ y)
-
-      pub takes-over-no : r ≡ false → takes-over w d c ≡ false
-      takes-over-no n = takes-over-is ∙ and_right (not (eqb c s)) (names (get_or all c None) s) (sym named ∙ n)
-
-    pub takes-over-self : c ≡ s → takes-over w d c ≡ false
-    takes-over-self y = takes-over-is ∙ and_left (not (eqb c s)) (names (get_or all c None) s) (not_from_true (eqb c s) (eq-eqb c s y))
+pub read-successor : (w : Meaning) → Laws w → (d c : ℕ) (all : List (Option ℕ)) → all ≡ successors_on w d → c < w.classes → get_or all c None ≡ successor (w.on d c)
+read-successor w law d c all e h = ap (λ (l : List (Option ℕ)). get_or l c None) e ∙ get_or-map-range_with_len (λ c. successor (w.on d c)) 0 12 c c None (omega (arith, law.twelve)) (omega arith)
 
 -- ---- a sum of at most twelve numbers, each of size at most m; y is what the code has for the next number x
 

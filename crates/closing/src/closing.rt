@@ -1,8 +1,8 @@
 // What the terms say of a day for its close.
-ghost use Rattle.std.specs.Prelude.{◌≡◌, false, map, slice_index_or};
+ghost use Rattle.std.specs.Prelude.{◌≡◌, ◌<◌, map};
 ghost use Rattle.closing.specs.Closing.{parts_of, successors_on, class_closing, closing_of};
 ghost use Rattle.ledger.specs.Calls.{source_below};
-ghost use Rattle.ledger.specs.State.{next_day};
+ghost use Rattle.calendars.specs.Walks.{next_after};
 ghost use Rattle.std.specs.List.{range_with_len};
 ghost use Rattle.terms.specs.Laws.{names, is_taken_over};
 ghost use Rattle.terms.specs.Meaning.{any_below, tradable, has_some_part, successor};
@@ -60,11 +60,15 @@ fn successor_of(class: Option<ClassTerms>) -> Option<u32>
     class.and_then(|class| class.successor)
 }
 
-// The successor of each class.
-fn successors<T: Terms>(terms: &T, day: u32) -> [Option<u32>; 12]
-    ensures { result ≡ successors_on (T.meaning terms.now) day }
-{
-    array::from_fn(|class| successor_of(terms.class_on(day, class as u32)))
+// A day of terms: the next open day, and the class to which each class hands over.
+#[derive(Drop)]
+struct Day<'a, T: Terms> {
+    terms: &'a T,
+    day: u32,
+    next: Option<u32>,
+    successors: [Option<u32>; 12],
+    ghost following: { next ≡ next_after (T.meaning terms.now).opens day },
+    ghost handed: { successors ≡ successors_on (T.meaning terms.now) day },
 }
 
 fn is_named(answer: Option<u32>, class: u32) -> bool
@@ -73,73 +77,71 @@ fn is_named(answer: Option<u32>, class: u32) -> bool
     answer == Some(class)
 }
 
-// The class to which a class is the successor.
-fn source_of<T: Terms>(
-    terms: &T,
-    successors: &[Option<u32>; 12],
-    day: u32,
-    class: u32,
-) -> Option<u32>
-    requires { successors.now ≡ successors_on (T.meaning terms.now) day }
-    ensures { result ≡ source_below (λ e. successor ((T.meaning terms.now).on day e)) class (T.meaning terms.now).classes }
+// The successor of each class.
+fn successors<T: Terms>(terms: &T, day: u32) -> [Option<u32>; 12]
+    ensures { result ≡ successors_on (T.meaning terms.now) day }
 {
-    let mut source = None;
-    for e in 0..terms.classes() {
-        if is_named(successors[e as usize], class) {
-            source = Some(e);
+    array::from_fn(|class| successor_of(terms.class_on(day, class as u32)))
+}
+
+impl<'a, T: Terms> Day<'a, T> {
+    fn new(terms: &'a T, day: u32) -> Self
+        ensures terms { result.terms.now ≡ terms.now }
+        ensures day { result.day ≡ day }
+    {
+        Day {
+            terms,
+            day,
+            next: calendars::next_after(&TermsOpenDays { terms }, day),
+            successors: successors(terms, day),
         }
     }
-    source
-}
 
-// Whether a class other than the settling class succeeds to it.
-fn is_taken_over<T: Terms>(terms: &T, successors: &[Option<u32>; 12], day: u32) -> bool
-    requires { successors.now ≡ successors_on (T.meaning terms.now) day }
-    ensures { result ≡ is_taken_over (T.meaning terms.now) day }
-{
-    let settling = terms.settling();
-    for c in 0..terms.classes() {
-        if c != settling && is_named(successors[c as usize], settling) {
-            return true;
+    // Whether one of the terms' classes hands over to another class.
+    fn hands_over(&self, class: u32, to: u32) -> bool
+        requires { class < (T.meaning self.now.terms.now).classes }
+        ensures { result ≡ names (successor ((T.meaning self.now.terms.now).on self.now.day class)) to }
+    {
+        is_named(self.successors[class as usize], to)
+    }
+
+    // The class to which a class is the successor.
+    fn source_of(&self, class: u32) -> Option<u32>
+        ensures { result ≡ source_below (λ e. successor ((T.meaning self.now.terms.now).on self.now.day e)) class (T.meaning self.now.terms.now).classes }
+    {
+        (0..self.terms.classes()).find(|&source| self.hands_over(source, class))
+    }
+
+    // Whether a class other than the settling class succeeds to it.
+    fn is_taken_over(&self) -> bool
+        ensures { result ≡ is_taken_over (T.meaning self.now.terms.now) self.now.day }
+    {
+        let settling = self.terms.settling();
+        (0..self.terms.classes()).any(|class| class != settling && self.hands_over(class, settling))
+    }
+
+    // A class on the day.
+    fn class_closing(&self, class: u32) -> ClassClosing
+        ensures { result ≡ class_closing (T.meaning self.now.terms.now) self.now.day class }
+    {
+        let here = self.terms.class_on(self.day, class);
+        let next = self.next.unwrap_or(0);
+        ClassClosing {
+            in_use: class < self.terms.classes(),
+            tradable: is_tradable(here),
+            quantity: quantity_of(self.terms, self.day, class),
+            parts: parts_of(here),
+            has_parts: has_parts(here),
+            source: self.source_of(class),
+            tradable_next: is_tradable(self.terms.class_on(next, class)),
         }
     }
-    false
-}
 
-// A class on a day; `next` is the next open day.
-fn class_closing<T: Terms>(
-    terms: &T,
-    successors: &[Option<u32>; 12],
-    day: u32,
-    next: u32,
-    class: u32,
-) -> ClassClosing
-    requires { (next ≡ next_day (T.meaning terms.now) day) × (successors.now ≡ successors_on (T.meaning terms.now) day) }
-    ensures { result ≡ class_closing (T.meaning terms.now) day class }
-{
-    let here = terms.class_on(day, class);
-    ClassClosing {
-        in_use: class < terms.classes(),
-        tradable: is_tradable(here),
-        quantity: quantity_of(terms, day, class),
-        parts: parts_of(here),
-        has_parts: has_parts(here),
-        source: source_of(terms, successors, day, class),
-        tradable_next: is_tradable(terms.class_on(next, class)),
+    fn class_closings(&self) -> [ClassClosing; 12]
+        ensures { result ≡ map (class_closing (T.meaning self.now.terms.now) self.now.day) (range_with_len 0 12) }
+    {
+        array::from_fn(|class| self.class_closing(class as u32))
     }
-}
-
-// Each class on a day; `next` is the next open day.
-fn class_closings<T: Terms>(
-    terms: &T,
-    successors: &[Option<u32>; 12],
-    day: u32,
-    next: u32,
-) -> [ClassClosing; 12]
-    requires { (next ≡ next_day (T.meaning terms.now) day) × (successors.now ≡ successors_on (T.meaning terms.now) day) }
-    ensures { result ≡ map (class_closing (T.meaning terms.now) day) (range_with_len 0 12) }
-{
-    array::from_fn(|class| class_closing(terms, successors, day, next, class as u32))
 }
 
 impl Closing {
@@ -147,12 +149,11 @@ impl Closing {
     pub fn of<T: Terms>(terms: &T, day: u32) -> Closing
         ensures { result ≡ closing_of (T.meaning terms.now) day }
     {
-        let next = calendars::next_after(&TermsOpenDays { terms }, day);
-        let successors = successors(terms, day);
+        let day = Day::new(terms, day);
         Closing {
-            classes: class_closings(terms, &successors, day, next.unwrap_or(0)),
-            taken_over: is_taken_over(terms, &successors, day),
-            next,
+            classes: day.class_closings(),
+            taken_over: day.is_taken_over(),
+            next: day.next,
         }
     }
 }
