@@ -14,8 +14,9 @@ ghost use Rattle.ledger.specs.declared.call.Call.TheVariants.{Close};
 
 use crate::book::Book;
 use crate::tables::{Account, Tables};
-use closing::Closing;
+use closing::{Closing, Rows};
 use ledger::{ClassPrices, Fault, Payment};
+use std::array;
 use terms::Terms;
 
 // The first day of 2097.
@@ -28,16 +29,19 @@ fn is_by_end(next: Option<u32>) -> bool
     next.is_some_and(|day| day < END)
 }
 
+fn as_lots(lots: i64) -> i32
+    requires { unsigned_abs lots ≤ 1000 }
+    ensures { result ≡ lots }
+{
+    lots as i32
+}
+
 // Lots within the limit fit the row.
 fn as_row(lots: &[i64; 12]) -> [i32; 12]
     requires { (c : ℕ) → unsigned_abs (at lots.now c) ≤ 1000 }
     ensures { result ≡ lots.now }
 {
-    let mut row = [0; 12];
-    for class in 0..12 {
-        row[class] = lots[class] as i32;
-    }
-    row
+    array::from_fn(|class| as_lots(lots[class]))
 }
 
 impl Account {
@@ -52,7 +56,12 @@ impl Account {
         ensures is { result ≡ paid_by closing.now prices.now self.now.lots self.now.traded self.now.cost }
         ensures bound { unsigned_abs result ≤ 2 ^ 110 }
     {
-        closing.pays(prices, &self.lots, &self.traded, &self.cost)
+        let rows = Rows {
+            lots: &self.lots,
+            traded: &self.traded,
+            cost: &self.cost,
+        };
+        closing.pays(prices, &rows)
     }
 
     // The account goes on to the next open day.

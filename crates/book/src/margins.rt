@@ -9,6 +9,7 @@ ghost use Rattle.ledger.specs.Words.{at};
 
 use crate::book::Book;
 use crate::tables::Tables;
+use amounts::Holding;
 use ledger::{ClassPrices, Fault};
 use terms::Terms;
 
@@ -20,14 +21,12 @@ fn margin_price(prices: &ClassPrices) -> i32
 }
 
 // What a repricing adds.
-fn repricing_of(prices: &ClassPrices, quantity: u32, lots: i32) -> i128
-    ensures is { result ≡ repricing_of prices.now.repriced prices.now.last quantity lots }
+fn repricing_of(prices: &ClassPrices, holding: Holding) -> i128
+    ensures is { result ≡ repricing_of prices.now.repriced prices.now.last holding.quantity holding.lots }
     ensures bound { unsigned_abs result ≤ 2 ^ 100 }
 {
     match prices.repriced {
-        Some(price) => {
-            amounts::repricing_addition(quantity, lots, price, prices.last.unwrap_or(0))
-        }
+        Some(price) => holding.repricing_addition(price, prices.last.unwrap_or(0)),
         None => 0,
     }
 }
@@ -41,12 +40,12 @@ fn added(a: i128, b: i128) -> i128
 }
 
 // The margin of lots in a class: the least of the ten steps' results, and what a repricing adds.
-fn margin_of(prices: &ClassPrices, interval: u16, quantity: u32, lots: i32) -> i128
-    ensures is { result ≡ margin_of prices.now.repriced prices.now.last interval quantity lots }
+fn margin_of(prices: &ClassPrices, interval: u16, holding: Holding) -> i128
+    ensures is { result ≡ margin_of prices.now.repriced prices.now.last interval holding.quantity holding.lots }
     ensures bound { unsigned_abs result ≤ 2 ^ 101 }
 {
-    let initial = amounts::class_margin(margin_price(prices), interval, quantity, lots);
-    added(initial, repricing_of(prices, quantity, lots))
+    let initial = holding.margin(margin_price(prices), interval);
+    added(initial, repricing_of(prices, holding))
 }
 
 impl Tables {
@@ -90,7 +89,9 @@ impl<T: Terms> Book<T> {
         ensures { result ≡ interval_of self.now.tables.lines ((T.meaning self.now.terms).on self.now.tables.day class) }
     {
         match self.terms.class_on(self.tables.day, class) {
-            Some(here) => self.tables.interval(self.terms.classes(), here.interval_class),
+            Some(here) => self
+                .tables
+                .interval(self.terms.classes(), here.interval_class),
             None => 0,
         }
     }
@@ -101,11 +102,14 @@ impl<T: Terms> Book<T> {
         ensures is { result ≡ margin_in (T.meaning self.now.terms) self.now.tables.lines (view self.now.tables) account class }
         ensures bound { unsigned_abs result ≤ 2 ^ 101 }
     {
+        let holding = Holding {
+            quantity: terms::quantity_of(&self.terms, self.tables.day, class),
+            lots: self.tables.accounts[account as usize].lots[class as usize],
+        };
         margin_of(
             &self.tables.prices[class as usize],
             self.interval_of(class),
-            terms::quantity_of(&self.terms, self.tables.day, class),
-            self.tables.accounts[account as usize].lots[class as usize],
+            holding,
         )
     }
 
