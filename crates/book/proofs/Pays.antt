@@ -1,14 +1,17 @@
 -- Paying into accounts, one after another. Assumes nothing.
-use Rattle.std.proofs.Common.{◌≡◌, ℕ, suc, ◌+◌, ◌^◌, ◌<◌, ◌≤◌, Bool, true, List, [], ◌∷◌, ◌++◌, map, length, get_or, drop, set, replicate, ℤ, pos, ◌+ℤ◌, nat_abs, sym, refl, ap, ◌∙◌, subst, append_assoc, add-one, arith, drop-cons, to_z, of_z}
+use Rattle.std.proofs.Common.{◌≡◌, ℕ, suc, ◌+◌, ◌^◌, ◌<◌, ◌≤◌, Bool, true, List, [], ◌∷◌, ◌++◌, map, length, get_or, drop, set, ℤ, pos, ◌+ℤ◌, nat_abs, sym, ap, ◌∙◌, subst, ⊎_elim, append_assoc, add-one, arith, drop-cons, to_z, of_z}
 use mir.Syntax.{w128}
-use Rattle.book.proofs.Rows.{keeps, of-replicate, filled_more}
 use Rattle.book.specs.Paying.{SmallPays}
+use Rattle.closing.proofs.Loops.{each-made}
 use Rattle.ledger.specs.Calls.{cash_fits}
 use Rattle.ledger.specs.Questions.{written}
 use Rattle.ledger.specs.Words.{at}
 use Rattle.ledger.specs.declared.payment.Payment.{Payment}
 use Rattle.std.proofs.lemmas.List.FromFn.{length-map-range_with_len, map-range_with_len_more}
-use Rattle.std.proofs.lemmas.List.{length-set, set_at}
+use Rattle.std.proofs.lemmas.Bool.{cases_lt}
+use Rattle.std.proofs.lemmas.List.{get_or_past, set_at}
+use Rattle.std.specs.Array.{IsFromFnResult}
+use Rattle.std.specs.Fn.{Mut, Called}
 use Rattle.std.proofs.lemmas.Int.{ints}
 use Rattle.std.specs.List.{range_with_len}
 
@@ -33,14 +36,12 @@ lines_more xs i pays h =
     ∙ sym (append_assoc p (f i ∷ []) (drop (suc i) xs))
     ∙ (λ j. sym (map-range_with_len_more f 0 i i (omega arith)) j ++ drop (sym (add-one i) j) xs)
 
--- a list of payments, worked out one after another
-abbrev pub PaysBelow : (ℕ → ℤ) → ℕ → List ℤ → Type 0
-PaysBelow f i pays = (length pays ≡ 32) × SmallPays pays × ((a : ℕ) → a < i → at pays a ≡ f a)
-
-pub pays-none : (f : ℕ → ℤ) → PaysBelow f 0 (replicate 32 (pos 0))
-pays-none f = (refl, (λ a. of-replicate (λ z. nat_abs z ≤ 2 ^ 110) 32 (pos 0) a (pos 0) (omega arith) (omega arith)), (λ a h. absurd (omega arith)))
-
-pub pays-more : (f : ℕ → ℤ) (i : ℕ) (pays : List ℤ) (v : ℤ) → i < 32 → PaysBelow f i pays → nat_abs v ≤ 2 ^ 110 → v ≡ f i → PaysBelow f (i + 1) (set pays i (to_z w128 (of_z w128 v)))
-pays-more f i pays v h inv small e =
-    let q = passed v small in
-    (length-set pays i _ ∙ inv.0, (λ a. keeps (λ z. nat_abs z ≤ 2 ^ 110) pays i _ a (pos 0) (subst (λ (z : ℤ). nat_abs z ≤ 2 ^ 110) (sym q) small) (inv.1 a)), filled_more f pays i (pos 0) _ (q ∙ e) (omega (arith, inv.0)) inv.2)
+-- a table of payments, where those of the first n are told, and none is large
+pub pays-made : {F : Type 0} (g : Mut F (ℕ × Unit {0}) ℤ) (s : F) (f : ℕ → ℤ) (n : ℕ) → ((i : ℕ) (y : ℤ) (q : F) → Called g s (i, tt) y q → (i < n → y ≡ f i) × (nat_abs y ≤ 2 ^ 110) × (q ≡ s)) → (pays : List ℤ) → IsFromFnResult g s pays 32 → ((a : ℕ) → a < 32 → a < n → at pays a ≡ f a) × SmallPays pays
+pays-made g s f n call pays r =
+    let each = each-made g s (λ i y. (i < n → y ≡ f i) × (nat_abs y ≤ 2 ^ 110)) (λ i y q k. let p = call i y q k in ((p.0, p.1), p.2)) pays 32 r in
+    (λ a h l. (each a (pos 0) h).0 l, λ a.
+    ⊎_elim
+    (λ (h : a < 32). (each a (pos 0) h).1)
+    (λ (h : 32 ≤ a). subst (λ (z : ℤ). nat_abs z ≤ 2 ^ 110) (sym (get_or_past pays a (pos 0) (omega (arith, r.long)))) (omega arith))
+    (cases_lt a 32))

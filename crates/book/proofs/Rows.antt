@@ -1,10 +1,10 @@
 -- Lists read at a place: one place set, a row filled, a row mapped. Assumes nothing.
-use Rattle.std.proofs.Common.{◌≡◌, ℕ, zero, suc, ◌+◌, ◌<◌, ◌≤◌, Bool, true, false, cond, eqb, List, [], ◌∷◌, map, length, get_or, set, replicate, ℤ, pos, ◌+ℤ◌, sym, refl, ap, ◌∙◌, subst, ⊎_elim, add-one, arith}
+use Rattle.std.proofs.Common.{◌≡◌, ℕ, zero, suc, ◌+◌, ◌<◌, ◌≤◌, Bool, true, false, cond, eqb, List, [], ◌∷◌, ◌++◌, map, length, get_or, take, drop, set, replicate, ℤ, pos, ◌+ℤ◌, sym, refl, ap, ◌∙◌, subst, ⊎_elim, add-one, arith}
 use Rattle.amounts.proofs.Sums.{hit, miss}
 use Rattle.amounts.specs.SumsOfWhole.{if_z}
 use Rattle.std.proofs.lemmas.List.FromFn.{get_or-map-range_with_len, length-map-range_with_len}
 use Rattle.std.proofs.lemmas.List.Edits.{fill_by_more}
-use Rattle.std.proofs.lemmas.List.{get_or-map, get_or_past, get_or-set_same, get_or-set_other, length-map, length-set}
+use Rattle.std.proofs.lemmas.List.{get_or-map, get_or-take, get_or_past, get_or-set_same, get_or-set_other, length-map, length-set, length-take, set-append_left, take-append-drop}
 use Rattle.std.proofs.lemmas.Bool.{cases_eq, cases_lt}
 use Rattle.std.specs.List.{range_with_len}
 use Rattle.book.specs.Tables.{no_account, account_of}
@@ -122,6 +122,31 @@ of-below R f xs n a l here past =
     (cases_lt a n)
 
 -- ---- a loop over the accounts in use
+
+module _ (f : ℕ → Account → Account) (xs : List Account) where
+  pub below-none : xs ≡ each_below 0 f xs
+  unfolding each_below
+  below-none = refl
+
+  -- one account more
+  pub below-more : (ys : List Account) (i : ℕ) (x : Account) → ys ≡ each_below i f xs → x ≡ f i (get_or ys i no_account) → set ys i x ≡ each_below (i + 1) f xs
+  unfolding each_below
+  below-more ys i x e h =
+      (λ j. set (e j) i ((h ∙ ap (f i) (ap (λ (zs : List Account). get_or zs i no_account) e ∙ below-past f xs i i (omega arith))) j))
+      ∙ ap (λ n. each_below n f xs) (sym (add-one i))
+
+-- the first n alone were changed, and stand again in front of the others
+pub below-first : (f : ℕ → Account → Account) (xs : List Account) (n i : ℕ) → i ≤ n → n ≤ length xs → each_below i f (take n xs) ++ drop n xs ≡ each_below i f xs
+unfolding each_below
+below-first f xs n zero h l = take-append-drop n xs
+below-first f xs n (suc i) h l =
+    let long : length (each_below i f (take n xs)) ≡ n = length-below f (take n xs) i ∙ (omega (arith, length-take n xs)) in
+    sym (set-append_left (each_below i f (take n xs)) (drop n xs) i (f i (get_or (take n xs) i no_account)) (omega (arith, long)))
+    ∙ (λ j. set (below-first f xs n i (omega arith) l j) i (f i (get_or-take n xs i no_account (omega arith) j)))
+
+-- once all of them were changed
+pub below-all : (f : ℕ → Account → Account) (xs : List Account) (n i : ℕ) (ys : List Account) → ys ≡ each_below i f (take n xs) → i ≡ n → n ≤ length xs → ys ++ drop n xs ≡ each_below n f xs
+below-all f xs n i ys e q l = (λ j. e j ++ drop n xs) ∙ (λ j. each_below (q j) f (take n xs) ++ drop n xs) ∙ below-first f xs n n (omega arith) l
 
 module _ (t : Tables) (f : ℕ → Account → Account) where
   pub each_none : t ≡ with_accounts t (each_below 0 f t.accounts)

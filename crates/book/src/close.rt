@@ -82,12 +82,7 @@ impl Tables {
         requires { self.now.count ≤ 32 }
         ensures { result ≡ all_below self.now.count (λ a. keeps_limit closing.now 1000 (account_of self.now a).lots) }
     {
-        for account in 0..self.count {
-            if !self.accounts[account as usize].keeps_limit(closing) {
-                return false;
-            }
-        }
-        true
+        (0..self.count).all(|account| self.accounts[account as usize].keeps_limit(closing))
     }
 
     // The questions before that of the cash.
@@ -119,14 +114,13 @@ impl Tables {
         ensures each { (a : ℕ) → a < self.now.count → at result a ≡ close_paid closing.now self.now a }
         ensures small { SmallPays result }
     {
-        let mut pays = [0; 32];
-        for account in 0..self.count {
-            pays[account as usize] = self.accounts[account as usize].close_pay(
-                closing,
-                &self.prices,
-            );
-        }
-        pays
+        array::from_fn(|account| {
+            if account < self.count as usize {
+                self.accounts[account].close_pay(closing, &self.prices)
+            } else {
+                0
+            }
+        })
     }
 
     // The accounts go on to the next open day.
@@ -134,8 +128,8 @@ impl Tables {
         requires { (self.old.count ≤ 32) × (((a c : ℕ) → a < self.old.count → unsigned_abs (at (moved_lots closing.now (account_of self.old a).lots) c) ≤ 1000)) }
         ensures { self.new ≡ with_accounts self.old (each_below self.old.count (λ a x. carried closing.now x) self.old.accounts) }
     {
-        for account in 0..self.count {
-            self.accounts[account as usize].carry(closing);
+        for account in self.accounts[..self.count as usize].iter_mut() {
+            account.carry(closing);
         }
     }
 

@@ -76,12 +76,7 @@ impl<T: Terms> Book<T> {
         requires { account < 32 }
         ensures { result ≡ held_priced (T.meaning self.now.terms) (view self.now.tables) account }
     {
-        for class in 0..self.terms.classes() {
-            if !self.tables.is_priced_for(account, class) {
-                return false;
-            }
-        }
-        true
+        (0..self.terms.classes()).all(|class| self.tables.is_priced_for(account, class))
     }
 
     // The interval of the class whose interval a class takes that day.
@@ -118,6 +113,7 @@ impl<T: Terms> Book<T> {
         requires { account < 32 }
         ensures { result ≡ sum_z (T.meaning self.now.terms).classes (margin_in (T.meaning self.now.terms) self.now.tables.lines (view self.now.tables) account) }
     {
+        // A loop: of a sum of signed numbers the library says no bound.
         let mut sum = 0;
         for class in 0..self.terms.classes() {
             sum += self.margin_in(account, class);

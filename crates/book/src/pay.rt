@@ -58,20 +58,16 @@ impl Tables {
         requires { (self.now.count ≤ 32) × (SmallPays pays.now) }
         ensures { result ≡ payable self.now (at pays.now) }
     {
-        for account in 0..self.count {
-            if !self.accounts[account as usize].may_receive(pays[account as usize]) {
-                return false;
-            }
-        }
-        true
+        (0..self.count as usize).all(|account| self.accounts[account].may_receive(pays[account]))
     }
 
     fn credit_all(&mut self, pays: &[i128; 32])
         requires { (self.old.count ≤ 32) × ((length self.old.accounts ≡ 32) × ((SmallPays pays.now) × (payable self.old (at pays.now) ≡ true))) }
         ensures { self.new ≡ paid_tables self.old (at pays.now) }
     {
-        for account in 0..self.count {
-            self.accounts[account as usize].credit(pays[account as usize]);
+        // By number: of accounts and payments zipped the check knows nothing once they are written.
+        for account in 0..self.count as usize {
+            self.accounts[account].credit(pays[account]);
         }
     }
 }
@@ -91,6 +87,7 @@ fn write_lines(count: u32, pays: &[i128; 32], list: &mut [Payment])
     requires { (count ≤ 32) × (count ≤ length list.old) }
     ensures { list.new ≡ written list.old count (at pays.now) }
 {
+    // By number, as above.
     for account in 0..count {
         list[account as usize] = line(account, pays);
     }

@@ -17,6 +17,7 @@ use crate::mark::price_fits;
 use crate::tables::{Account, Tables};
 use amounts::Holding;
 use ledger::{Fault, Payment};
+use std::array;
 use terms::Terms;
 
 impl Account {
@@ -47,13 +48,13 @@ impl Tables {
         ensures each { (a : ℕ) → a < self.now.count → at result a ≡ final_payment quantity (at (account_of self.now a).lots class) price last }
         ensures small { SmallPays result }
     {
-        let mut pays = [0; 32];
-        for account in 0..self.count {
-            pays[account as usize] = self.accounts[account as usize].final_pay(
-                class, quantity, price, last,
-            );
-        }
-        pays
+        array::from_fn(|account| {
+            if account < self.count as usize {
+                self.accounts[account].final_pay(class, quantity, price, last)
+            } else {
+                0
+            }
+        })
     }
 
     // No account has lots in a class any more, and the class neither a last price nor a repricing.
@@ -61,8 +62,8 @@ impl Tables {
         requires { (class < 12) × ((self.old.count ≤ 32) × (length self.old.accounts ≡ 32)) }
         ensures { self.new ≡ emptied_tables self.old class }
     {
-        for account in 0..self.count {
-            self.accounts[account as usize].empty(class);
+        for account in self.accounts[..self.count as usize].iter_mut() {
+            account.empty(class);
         }
         self.prices[class as usize].settle();
     }

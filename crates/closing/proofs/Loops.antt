@@ -138,16 +138,20 @@ fill-turn f d i xs v h e r =
 pub fill_end : {X : Type 0} (f : ℕ → X) (d : X) (i : ℕ) (xs : List X) → i ≡ 12 → Filled f d i xs → xs ≡ map f (range_with_len 0 12)
 fill_end f d i xs e r = fill_by_all f xs 12 d r.1 (λ k h. r.0 k (omega arith))
 
--- a table made by calls at each place, where each call gives what a function says and changes nothing
-module _ {F B : Type 0} (g : Mut F (ℕ × Unit {0}) B) (f : F) (val : ℕ → B) (call : (i : ℕ) (y : B) (q : F) → Called g f (i, tt) y q → (y ≡ val i) × (q ≡ f)) where
-  drawn : (ys : List B) (n i : ℕ) (p : F) → p ≡ f → IsFromFnResultFrom g p ys i n → (k : ℕ) (d : B) → i ≤ k → k < i + n → get_or ys k d ≡ val k
+-- a table made by calls at each place, where each call has a property and changes nothing
+module _ {F B : Type 0} (g : Mut F (ℕ × Unit {0}) B) (f : F) (P : ℕ → B → Type 0) (call : (i : ℕ) (y : B) (q : F) → Called g f (i, tt) y q → P i y × (q ≡ f)) where
+  drawn : (ys : List B) (n i : ℕ) (p : F) → p ≡ f → IsFromFnResultFrom g p ys i n → (k : ℕ) (d : B) → i ≤ k → k < i + n → P k (get_or ys k d)
   drawn ys zero i p e r k d l h = absurd (omega arith)
   drawn ys (suc n) i p e r k d l h =
       let one = call i r.1 r.0 (subst (λ (p : F). Called g p (i, tt) r.1 r.0) e r.3) in
       ⊎_elim
-      (λ (s : k ≡ i). subst (λ k. get_or ys k d ≡ val k) (sym s) (r.2.1 d ∙ one.0))
+      (λ (s : k ≡ i). subst (λ k. P k (get_or ys k d)) (sym s) (subst (P i) (sym (r.2.1 d)) one.0))
       (λ (s : k ≡ i → ⊥). drawn ys n (i + 1) r.0 one.1 r.4 k d (omega arith) (omega arith))
       (cases_eq k i)
 
-  pub made-by : (ys : List B) (n : ℕ) → B → IsFromFnResult g f ys n → ys ≡ map val (range_with_len 0 n)
-  made-by ys n d r = fill_by_all val ys n d r.long (λ k h. drawn ys n 0 f refl r.each k d (omega arith) (omega arith))
+  pub each-made : (ys : List B) (n : ℕ) → IsFromFnResult g f ys n → (k : ℕ) (d : B) → k < n → P k (get_or ys k d)
+  each-made ys n r k d h = drawn ys n 0 f refl r.each k d (omega arith) (omega arith)
+
+-- each call gives what a function says
+pub made-by : {F B : Type 0} (g : Mut F (ℕ × Unit {0}) B) (f : F) (val : ℕ → B) → ((i : ℕ) (y : B) (q : F) → Called g f (i, tt) y q → (y ≡ val i) × (q ≡ f)) → (ys : List B) (n : ℕ) → B → IsFromFnResult g f ys n → ys ≡ map val (range_with_len 0 n)
+made-by g f val call ys n d r = fill_by_all val ys n d r.long (λ k h. each-made g f (λ i y. y ≡ val i) call ys n r k d h)

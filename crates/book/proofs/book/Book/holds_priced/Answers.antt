@@ -1,11 +1,14 @@
-use Rattle.std.proofs.Common.{◌<◌, sym, ◌∙◌, arith}
-use Rattle.ledger.proofs.Tests.{all_more, all-not}
+use Rattle.std.proofs.Common.{◌≡◌, ℕ, Bool, true, false, cond, eqb, nat_abs, is_some, refl, ap, ◌∙◌, arith, rules}
+use Rattle.book.specs.Tables.{account_of, prices_of}
+use Rattle.closing.proofs.Loops.{all-is}
+use Rattle.ledger.specs.Words.{all_below, at}
+use Rattle.std.proofs.lemmas.Iterator.{cases_from_all, YieldsList-from_range}
 use Rattle.book.proofs.book.Book.holds_priced.Goals as goal
 
-pub returns-then-not-is_priced_for : goal.returns-then-not-is_priced_for
-returns-then-not-is_priced_for g c =
-    let h : c.loop-class.class < (g.T.Terms.meaning c.args.self.now.terms).classes = omega arith in
-    sym (all-not _ _ c.loop-class.class h (sym c.is_priced_for.ensures ∙ c.if-not-is_priced_for.true))
-
-pub loop-class-preserved : goal.loop-class-preserved
-loop-class-preserved g c = all_more c.loop-class.class _ c.loop-class.invariant (sym c.is_priced_for.ensures ∙ c.if-not-is_priced_for.false)
+pub returns : goal.returns
+returns g c =
+    let t = c.args.self.now.tables in
+    let n = c.classes.result in
+    let f : ℕ → Bool = λ k. cond (eqb (nat_abs (at (account_of t c.args.account).lots k)) 0) true (is_some (prices_of t k).last) in
+    all-is f n c.all.result (cases_from_all _ _ _ (λ m. f m ≡ true) (λ m. f m ≡ false) c.all.ensures.ran (YieldsList-from_range 0 n n refl (omega arith)) (λ x q k. search rules) (λ x q k. search rules))
+    ∙ ap (λ m. all_below m f) c.classes.ensures
