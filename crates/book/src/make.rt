@@ -61,10 +61,10 @@ fn may_make<T: Terms>(
     ensures is { result ≡ reply (make_refusal (T.meaning terms.now) month accounts lines.now) tt }
     ensures few { result ≡ Ok tt → length lines.now ≤ 12 }
 {
-    if accounts < 2 || accounts > 32 {
+    if !(2..=32).contains(&accounts) {
         return Err(Fault::AccountCount);
     }
-    if month < 12 || month > 1163 {
+    if !(12..=1163).contains(&month) {
         return Err(Fault::StartMonth);
     }
     if !lines_fit(terms.classes(), lines) {

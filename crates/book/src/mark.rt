@@ -16,7 +16,7 @@ pub(crate) fn price_fits(price: i32) -> bool
     ensures is { result ≡ price_fits price }
     ensures size { result ≡ true → unsigned_abs price ≤ 100000 }
 {
-    price >= -100_000 && price <= 100_000
+    (-100_000..=100_000).contains(&price)
 }
 
 impl<T: Terms> Book<T> {

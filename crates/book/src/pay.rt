@@ -10,14 +10,14 @@ ghost use Rattle.ledger.specs.Words.{unless, at};
 use crate::tables::{Account, Tables};
 use ledger::{Fault, Payment};
 
-// The most cash that an account may have, and the least.
+// The most cash that an account may have; the least is as far below zero.
 const MOST: i128 = 9_000_000_000_000_000_000;
 
 fn cash_fits(cash: i128) -> bool
     ensures is { result ≡ cash_fits cash }
     ensures size { result ≡ true → unsigned_abs cash ≤ 9000000000000000000 }
 {
-    cash >= -MOST && cash <= MOST
+    (-MOST..=MOST).contains(&cash)
 }
 
 fn cash_with(cash: i64, cents: i128) -> i128

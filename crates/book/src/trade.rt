@@ -11,23 +11,15 @@ ghost use Rattle.ledger.specs.declared.call.Call.TheVariants.{Trade};
 use crate::book::Book;
 use crate::mark::price_fits;
 use crate::tables::{Account, Tables};
-use ledger::Fault;
+use ledger::{Fault, is_within_limit};
 use terms::Terms;
-
-fn within_limit(limit: u16, lots: i64) -> bool
-    ensures is { result ≡ within (neg_ℤ (pos limit)) (pos limit) lots }
-    ensures size { result ≡ true → unsigned_abs lots ≤ limit }
-{
-    let limit = i64::from(limit);
-    lots >= -limit && lots <= limit
-}
 
 // Whether lots of one trade lie in the range.
 fn lots_fit(lots: i32) -> bool
     ensures is { result ≡ within (pos 1) (pos 1000) lots }
     ensures size { result ≡ true → unsigned_abs lots ≤ 1000 }
 {
-    lots >= 1 && lots <= 1000
+    (1..=1000).contains(&lots)
 }
 
 fn negative(lots: i32) -> i32
@@ -74,7 +66,7 @@ impl Account {
         ensures is { result ≡ within (negsuc 999) (pos 1000) (at self.now.lots class +ℤ lots) }
         ensures size { result ≡ true → unsigned_abs (at self.now.lots class +ℤ lots) ≤ 1000 }
     {
-        within_limit(self.limit(), sum(self.lots[class as usize], lots))
+        is_within_limit(self.limit(), sum(self.lots[class as usize], lots))
     }
 
     // Takes lots of a class at a price; they are negative for a sale.

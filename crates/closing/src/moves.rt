@@ -6,15 +6,8 @@ ghost use Rattle.ledger.specs.Prices.{prices_at};
 ghost use Rattle.ledger.specs.Words.{from, within, at};
 
 use crate::closing::Closing;
-use ledger::ClassPrices;
+use ledger::{ClassPrices, is_within_limit};
 use std::array;
-
-// Whether lots stay within a limit, long and short.
-fn is_within(limit: u16, lots: i64) -> bool
-    ensures { result ≡ within (neg_ℤ (pos limit)) (pos limit) lots }
-{
-    -i64::from(limit) <= lots && lots <= i64::from(limit)
-}
 
 impl Closing {
     // Whether a class has a price today, if it is tradable.
@@ -74,7 +67,7 @@ impl Closing {
         requires { class < 12 }
         ensures { result ≡ stays_by self.now limit lots.now class }
     {
-        !self.classes[class].in_use || is_within(limit, self.after_parts(lots, class))
+        !self.classes[class].in_use || is_within_limit(limit, self.after_parts(lots, class))
     }
 
     // Whether an account's lots stay within a limit after the parts, long and short.
