@@ -50,10 +50,9 @@ pub fn day_of(date: Date) -> Option<u32>
     let month = 12 * (date.year - FIRST_YEAR) + (date.month - 1);
     let first = first_day(month)?;
     let length = month_length(month)?;
-    if !(1..=length).contains(&date.day) {
-        return None;
-    }
-    Some(first + (date.day - 1))
+    (1..=length)
+        .contains(&date.day)
+        .then(|| first + (date.day - 1))
 }
 
 // The name of a month by its number in the year, 1 to 12.
