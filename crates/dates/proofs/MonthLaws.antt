@@ -138,11 +138,7 @@ not-given k n y h = cond_above k n (Some y) None None h refl
 
 pub told : {A : Type 0} (b : Bool) (x y : A) → Some x ≡ when b y → (b ≡ true) × (x ≡ y)
 told true x y e = (refl, cc)
-told false x y e = absurd (let z : ◌≡◌ {A = ℕ} 0 1 = cc in omega arith)
-
-pub not-told : {A : Type 0} (b : Bool) (y : A) → when b y ≡ None → b ≡ false
-not-told true y e = absurd (let z : ◌≡◌ {A = ℕ} 0 1 = cc in omega arith)
-not-told false y e = refl
+told false x y e = absurd cc
 
 -- the days of a month, from the answers on its first day and its length
 pub month-told : (m a n : ℕ) → Some a ≡ first_day m → Some n ≡ month_length m → (m < 1200) × (a ≡ start m) × (a + n ≡ start (m + 1))

@@ -28,6 +28,3 @@ pub returns-clause-value : goal.returns-clause-value
 returns-clause-value c =
     let some = false-eqb _ _ c.if-is_empty.ensures in
     sym (right-length c.args.s.now (omega arith) c.if-s-gt9.false ∙ sym c.loop-b.invariant.0 ∙ ends c.loop-b.n c.args.s.now c.loop-b.b-index c.loop-b-test.false)
-
-pub returns-clause-bound : goal.returns-clause-bound
-returns-clause-bound c = omega (arith, ten-power c.loop-b.b-index 9 (omega arith))
