@@ -1,5 +1,5 @@
 -- The first day of a set from a day on: as a walk, and as the least. Assumes nothing.
-use Rattle.std.proofs.Common.{◌≡◌, ℕ, zero, suc, ◌+◌, ◌-◌, ◌<◌, Bool, true, false, cond, Some, None, sym, refl, ap, ◌∙◌, ⊎_elim, arith}
+use Rattle.std.proofs.Common.{◌≡◌, ℕ, zero, suc, ◌+◌, ◌-◌, ◌<◌, ◌≤◌, Bool, true, false, cond, Some, None, Option, MatchOption, sym, refl, ap, ◌∙◌, ⊎_elim, arith}
 use Rattle.std.proofs.lemmas.Bool.{cases_lt}
 use Rattle.calendars.specs.Walks.{first_from, NoneIn, First}
 
@@ -17,10 +17,6 @@ module _ (f : ℕ → Bool) where
       (λ l. let e : a ≡ d = omega (arith, h.from) in rw (ap f e ∙ h.inside) (ap Some e))
       (cases_lt a d)
 
-  pub none_more : (a d : ℕ) → NoneIn f a d → f d ≡ false → NoneIn f a (d + 1)
-  none_more a d h e k l u =
-      ⊎_elim (λ (x : k < d). h k l x) (λ x. let z : k ≡ d = omega arith in ap f z ∙ e) (cases_lt k d)
-
   pub none_is : (a b : ℕ) → NoneIn f a b → None ≡ first_from f a (b - a)
   none_is a b h = sym (from-none (b - a) a (λ k l u. h k l (omega arith)))
 
@@ -28,10 +24,17 @@ module _ (f : ℕ → Bool) where
   first-is a b d h =
       sym (from_some (b - a) a d (record { from = h.from; to = omega (arith, h.from, h.to); inside = h.inside; none = h.none }))
 
+  -- what the search of a range by the test of the set gives
+  pub first_told : (a b : ℕ) (r : Option ℕ) → MatchOption r (NoneIn f a b) (λ d. (a ≤ d) × (d < b) × (f d ≡ true) × NoneIn f a d) → record { is : r ≡ first_from f a (b - a); least : MatchOption r (NoneIn f a b) (First f a b) }
+  first_told a b None h = record { is = none_is a b h; least = h }
+  first_told a b (Some d) h =
+      let n : First f a b d = record { from = h.0; to = h.1; inside = h.2; none = h.3 } in
+      record { is = first-is a b d n; least = n }
+
   -- what the walk finds is in the set, and where it finds nothing no day is
   pub found : (n a d : ℕ) → first_from f a n ≡ Some d → (f d ≡ true) × (d < a + n)
   unfolding first_from
-  found zero a d e = absurd (let z : ◌≡◌ {A = ℕ} 0 1 = cc in omega arith)
+  found zero a d e = absurd cc
   found (suc n) a d e = step (f a) refl e (found n (suc a) d)
     where
       step : (b : Bool) → f a ≡ b → cond b (Some a) (first_from f (suc a) n) ≡ Some d → (first_from f (suc a) n ≡ Some d → (f d ≡ true) × (d < suc a + n)) → (f d ≡ true) × (d < a + suc n)
@@ -44,5 +47,5 @@ module _ (f : ℕ → Bool) where
   none_found (suc n) a e = step (f a) refl e (none_found n (suc a))
     where
       step : (b : Bool) → f a ≡ b → cond b (Some a) (first_from f (suc a) n) ≡ None → (first_from f (suc a) n ≡ None → NoneIn f (suc a) (suc a + n)) → NoneIn f a (a + suc n)
-      step true t q rest = absurd (let z : ◌≡◌ {A = ℕ} 0 1 = cc in omega arith)
+      step true t q rest = absurd cc
       step false t q rest = λ k l u. ⊎_elim (λ (x : a < k). rest q k x (omega arith)) (λ x. let z : k ≡ a = omega arith in ap f z ∙ t) (cases_lt a k)

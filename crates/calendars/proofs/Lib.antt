@@ -1,3 +1,4 @@
-pub mod Answered
+pub mod CountedDays
 pub mod Firsts
+pub mod Rises
 pub mod Steps

@@ -1,7 +1,12 @@
 -- Steps from day to day of a set, and its days within a month. Assumes nothing.
 use Rattle.std.specs.Prelude.{◌≡◌, ℕ, zero, suc, ◌+◌, ◌-◌, ◌<◌, ◌≤◌, Bool, true, false, cond, ◌&&◌, Some, None, Option, ◌==◌, nat_lt}
+use Rattle.std.specs.declared.ops.Range.{Range}
 use Rattle.dates.specs.Dates.{when, days_in, start, month_of}
 use Rattle.calendars.specs.Sets.{between}
+
+-- the days of a month, from its first, before the first of the next
+abbrev pub days_of : ℕ → Option (Range ℕ)
+days_of m = when (nat_lt m 1200) (record { start = start m; end = start (m + 1) })
 
 -- the first day of the set among the n days from a on
 unfoldable pub first_from : (ℕ → Bool) → ℕ → ℕ → Option ℕ

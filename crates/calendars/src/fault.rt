@@ -16,6 +16,7 @@ impl ListFault {
     pub fn number(self) -> u8
         ensures { result ≡ list_number self }
     {
+        // A match: discriminants differ by themselves, and here the contract is what keeps the numbers apart.
         match self {
             ListFault::TooMany => 4,
             ListFault::Unordered => 5,
@@ -39,7 +40,6 @@ impl fmt::Display for ListFault {
     ghost output = { λ f. Some (list_reason f) };
 
     fn fmt<W: fmt::Write>(&self, f: &mut fmt::Formatter<W>) -> fmt::Result {
-        let reason = self.reason();
-        write!(f, "{reason}")
+        f.write_str(self.reason())
     }
 }

@@ -9,26 +9,17 @@ use crate::calendar::Calendar;
 use crate::day_set::DaySet;
 use crate::fault::ListFault;
 use crate::law::keeps_law;
+use crate::weekdays::Weekdays;
+use dates::DAY_COUNT;
+
+// How many days a list may have.
+const MOST_CLOSED: usize = 2000;
 
 // Whether the days rise strictly and lie in the range.
 fn ordered(closed: &[u32]) -> bool
     ensures { Decides result (Ordered closed.now) }
 {
-    let mut least = 0;
-    for day in closed {
-        if *day < least || *day >= 36_525 {
-            return false;
-        }
-        least = *day + 1;
-    }
-    true
-}
-
-fn is_listed(closed: &[u32], day: u32) -> bool
-    requires { Rising closed.now }
-    ensures { result ≡ is_some (place closed.now day) }
-{
-    coded::find(closed, day).is_some()
+    closed.is_sorted_by(|day, next| day < next) && closed.iter().all(|&day| day < DAY_COUNT)
 }
 
 // The weekdays that are not in a rising list.
@@ -42,8 +33,24 @@ impl DaySet for Unlisted<'_> {
     ghost has = { λ u. listed u.closed.now };
 
     fn contains(&self, day: u32) -> bool {
-        day < 36_525 && dates::is_weekday(day) && !is_listed(self.closed, day)
+        Weekdays.is_open(day) && coded::find(self.closed, day).is_none()
     }
+}
+
+// The first question about a list that is answered no, if one is.
+fn check(closed: &[u32]) -> Result<(), ListFault>
+    ensures { MatchResult result (λ _. Accepted closed.now) (Refused closed.now) }
+{
+    if closed.len() > MOST_CLOSED {
+        return Err(ListFault::TooMany);
+    }
+    if !ordered(closed) {
+        return Err(ListFault::Unordered);
+    }
+    if !keeps_law(&Unlisted { closed }) {
+        return Err(ListFault::LawBroken);
+    }
+    Ok(())
 }
 
 // Open from Monday to Friday but for the days of a list. None exists that breaks the calendar law.
@@ -66,27 +73,10 @@ impl ListCalendar {
     pub fn new(closed: Vec<u32>) -> Result<ListCalendar, RefusedList>
         ensures { MatchResult result (λ c. (c.closed ≡ closed) × Accepted closed.items) (λ e. (e.closed ≡ closed) × Refused closed.items e.fault) }
     {
-        if closed.len() > 2000 {
-            return Err(RefusedList {
-                fault: ListFault::TooMany,
-                closed,
-            });
+        match check(&closed) {
+            Ok(()) => Ok(ListCalendar { closed }),
+            Err(fault) => Err(RefusedList { fault, closed }),
         }
-        if !ordered(closed.as_slice()) {
-            return Err(RefusedList {
-                fault: ListFault::Unordered,
-                closed,
-            });
-        }
-        if !keeps_law(&Unlisted {
-            closed: closed.as_slice(),
-        }) {
-            return Err(RefusedList {
-                fault: ListFault::LawBroken,
-                closed,
-            });
-        }
-        Ok(ListCalendar { closed })
     }
 }
 
@@ -97,7 +87,7 @@ impl Calendar for ListCalendar {
 
     fn is_open(&self, day: u32) -> bool {
         Unlisted {
-            closed: self.closed.as_slice(),
+            closed: &self.closed,
         }
         .contains(day)
     }

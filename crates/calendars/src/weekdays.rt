@@ -3,6 +3,7 @@ ghost use Rattle.calendars.specs.Calendars.{weekdays};
 ghost use Rattle.calendars.specs.Lawfulness.{weekdays-lawful};
 
 use crate::calendar::Calendar;
+use dates::{DAY_COUNT, is_weekday};
 
 // Open from Monday to Friday.
 #[derive(Clone, Copy)]
@@ -14,6 +15,6 @@ impl Calendar for Weekdays {
     ghost lawful = { λ c. weekdays-lawful };
 
     fn is_open(&self, day: u32) -> bool {
-        day < 36_525 && dates::is_weekday(day)
+        day < DAY_COUNT && is_weekday(day)
     }
 }

@@ -1,58 +1,59 @@
--- When a code stands at a place, and what each step of a search by halves keeps. Assumes nothing.
-use Rattle.std.proofs.Common.{◌≡◌, ℕ, zero, suc, ◌+◌, ◌<◌, ◌≤◌, List, [], ◌∷◌, length, get_or, Some, None, sym, refl, subst, ⊎_elim, arith}
-use Rattle.std.proofs.lemmas.Bool.{eq-eqb, ne_eqb, cases_lt, cases_order}
+-- When a code stands at a place, and what a binary search by code tells of it. Assumes nothing.
+use Rattle.std.proofs.Common.{◌≡◌, ℕ, zero, suc, ◌<◌, List, [], ◌∷◌, map, length, get_or, Some, None, Ok, Err, Result, IfSome, sym, refl, ◌∙◌, ⊎_elim, arith}
+use Rattle.std.specs.Result.{result_ok}
+use Rattle.std.specs.Ordering.{nat_cmp, ordering_index}
+use Rattle.std.specs.List.Sorted.{IsSearchInRange, IsBinarySearchResult, IsNonDecreasingBy}
+use Rattle.std.proofs.lemmas.Bool.{eq-eqb, ne_eqb, cases_lt}
 use Rattle.std.proofs.lemmas.Bool.Decides.{nat_tests}
+use Rattle.std.proofs.lemmas.Cmp.{ranked}
+use Rattle.std.proofs.lemmas.List.{get_or-map, length-map}
 use Rattle.coded.specs.Places.{Rising, place}
-use Rattle.coded.specs.Probes.{probed}
-use Rattle.coded.specs.declared.finding.Probe.TheVariants.{Before, Here, After}
 
-pub place_none : (xs : List ℕ) (c : ℕ) → ((k : ℕ) → k < length xs → get_or xs k 0 ≡ c → ⊥) → place xs c ≡ None
+place_none : (xs : List ℕ) (c : ℕ) → ((k : ℕ) → k < length xs → get_or xs k 0 ≡ c → ⊥) → place xs c ≡ None
 unfolding place
 place_none [] c h = refl
 place_none (x ∷ xs) c h =
     rw (ne_eqb x c (h 0 (omega arith)), place_none xs c (λ k l. h (suc k) (omega arith)))
 
-pub place-some : (xs : List ℕ) (c i : ℕ) → i < length xs → get_or xs i 0 ≡ c → ((k : ℕ) → k < i → get_or xs k 0 ≡ c → ⊥) → place xs c ≡ Some i
+place-some : (xs : List ℕ) (c i : ℕ) → i < length xs → get_or xs i 0 ≡ c → ((k : ℕ) → k < i → get_or xs k 0 ≡ c → ⊥) → place xs c ≡ Some i
 unfolding place
 place-some [] c i l e h = absurd (omega arith)
 place-some (x ∷ xs) c zero l e h = rw (eq-eqb x c e)
 place-some (x ∷ xs) c (suc i) l e h =
     rw (ne_eqb x c (h 0 (omega arith)), place-some xs c i (omega arith) e (λ k l. h (suc k) (omega arith)))
 
--- what a probe says
-pub was-here : (x c : ℕ) → probed x c ≡ Here → x ≡ c
-was-here x c e = grind (arith, nat_tests)
+-- an entry of a list that has one
+entry_of : {E : Type 0} (es : List E) (k : ℕ) → k < length es → E
+entry_of [] k l = absurd (omega arith)
+entry_of (e ∷ es) k l = e
 
-pub was-before : (x c : ℕ) → probed x c ≡ Before → x < c
-was-before x c e = grind (arith, nat_tests)
+module _ {E : Type 0} (n : E → ℕ) (es : List E) (c : ℕ) where
+  code-at : (k : ℕ) (d : E) → k < length es → n (get_or es k d) ≡ get_or (map n es) k 0
+  code-at k d l = sym (get_or-map n es k d 0 l)
 
-pub was-after : (x c : ℕ) → probed x c ≡ After → c < x
-was-after x c e = grind (arith, nat_tests)
+  -- where the codes rise, so do the answers of the comparison with c
+  answers_rise : Rising (map n es) → IsNonDecreasingBy (λ e. ordering_index (nat_cmp (n e) c)) es
+  answers_rise up i j d le l =
+      let s = length-map es n in
+      grind (arith, nat_tests, up i j, code-at i d, code-at j d)
 
--- what the search knows of a list whose codes rise: the code stands neither below low nor from high on
-pub record Narrowed (xs : List ℕ) (c low high : ℕ) : Type 0 where
-  pub below : (k : ℕ) → k < low → get_or xs k 0 < c
-  pub above : (k : ℕ) → high ≤ k → k < length xs → c < get_or xs k 0
-
-pub unread : (xs : List ℕ) (c : ℕ) → Narrowed xs c 0 (length xs)
-unread xs c = record { below = λ k h. absurd (omega arith); above = λ k h l. absurd (omega arith) }
-
-module _ (xs : List ℕ) (up : Rising xs) (c : ℕ) where
-  pub raised : (low high middle : ℕ) → Narrowed xs c low high → middle < length xs → get_or xs middle 0 < c → Narrowed xs c (middle + 1) high
-  raised low high middle n l h = record {
-    below = λ k t. ⊎_elim (λ e. subst (λ (i : ℕ). get_or xs i 0 < c) (sym e) h) (⊎_elim (λ s. omega (arith, up k middle s l)) (λ s. absurd (omega arith))) (cases_order k middle);
-    above = n.above;
-  }
-
-  pub lowered : (low high middle : ℕ) → Narrowed xs c low high → c < get_or xs middle 0 → Narrowed xs c low middle
-  lowered low high middle n h = record {
-    below = n.below;
-    above = λ k t l. ⊎_elim (λ e. subst (λ (i : ℕ). c < get_or xs i 0) (sym e) h) (⊎_elim (λ s. absurd (omega arith)) (λ s. omega (arith, up middle k s l))) (cases_order k middle);
-  }
-
-  pub here : (middle : ℕ) → middle < length xs → get_or xs middle 0 ≡ c → Some middle ≡ place xs c
-  here middle l e = sym (place-some xs c middle l e (λ k s f. omega (arith, up k middle s l)))
-
-  pub nowhere : (low high : ℕ) → high ≤ low → Narrowed xs c low high → None ≡ place xs c
-  nowhere low high h n =
-      sym (place_none xs c (λ k l e. ⊎_elim (λ s. omega (arith, n.below k s)) (λ s. omega (arith, n.above k (omega arith) l)) (cases_lt k low)))
+  pub searched : (r : Result ℕ ℕ) → IsSearchInRange r (length es) → IsBinarySearchResult (λ e. nat_cmp (n e) c) es r → record { found : IfSome (result_ok r) (λ i. (i < length es) × (get_or (map n es) i 0 ≡ c)); rising : Rising (map n es) → result_ok r ≡ place (map n es) c }
+  searched (Ok i) l equal =
+      let s = length-map es n in
+      let d = entry_of es i l in
+      let here : get_or (map n es) i 0 ≡ c = get_or-map n es i d 0 l ∙ ranked _ c _ (sym (equal d)) in
+      record {
+        found = (l, here);
+        rising = λ up. sym (place-some (map n es) c i (omega arith) here (λ k h e. omega (arith, up k i h)));
+      }
+  searched (Err i) l parted =
+      let s = length-map es n in
+      record {
+        found = tt;
+        rising = λ up. sym (place_none (map n es) c (λ k h e.
+            let in_range : k < length es = omega arith in
+            let d = entry_of es k in_range in
+            let p = parted (answers_rise up) in
+            let at = code-at k d in_range in
+            ⊎_elim (λ b. omega (arith, ranked _ c _ (sym (p.0 k d (omega arith) b)))) (λ a. omega (arith, ranked _ c _ (sym (p.1 k d a in_range)))) (cases_lt k i)));
+      }

@@ -1,7 +1,8 @@
 -- The laws of days and months. Assumes nothing.
-use Rattle.std.proofs.Common.{◌≡◌, ℕ, zero, suc, ◌+◌, ◌-◌, ◌*◌, ◌/◌, ◌%◌, ◌<◌, ◌≤◌, Bool, true, false, cond, ◌&&◌, eqb, ltb, leb, List, [], ◌∷◌, get_or, Some, None, sym, refl, ap, ◌∙◌, ⊎_elim, add-zero, add-suc, suc-add, add-one, arith}
+use Rattle.std.proofs.Common.{◌≡◌, ℕ, zero, suc, ◌+◌, ◌-◌, ◌*◌, ◌/◌, ◌%◌, ◌<◌, ◌≤◌, Bool, true, false, cond, ◌&&◌, eqb, ltb, leb, get_or, Some, None, sym, refl, ap, ◌∙◌, ⊎_elim, add-zero, add-suc, suc-add, add-one, arith}
 use Rattle.std.proofs.lemmas.Bool.{eqb-true, eqb-false, leb-true, ltb-true, and_parts, cases_lt, cases_order, cond_below, cond_above, cond_both}
 use Rattle.dates.specs.Dates.{when, days_in, start, month_of, InMonth, DaysAndMonths, first_day, month_length}
+use Rattle.dates.specs.declared.months.TheConstants.{CYCLE_STARTS}
 use Rattle.dates.proofs.Below.{at, table}
 
 pub start-next : (m : ℕ) → start (m + 1) ≡ start m + days_in m
@@ -93,13 +94,10 @@ in-cycles q d m h =
     let e : 48 * q + m + 1 ≡ 48 * q + (m + 1) = omega arith in
     record { from = omega (arith, start-cycles q m, h.from); to = rw e (omega (arith, start-cycles q (m + 1), h.to)) }
 
--- the days of a cycle before each of its months, as the code's table has them
-abbrev cycle_starts : List ℕ
-cycle_starts = 0 ∷ 31 ∷ 60 ∷ 91 ∷ 121 ∷ 152 ∷ 182 ∷ 213 ∷ 244 ∷ 274 ∷ 305 ∷ 335 ∷ 366 ∷ 397 ∷ 425 ∷ 456 ∷ 486 ∷ 517 ∷ 547 ∷ 578 ∷ 609 ∷ 639 ∷ 670 ∷ 700 ∷ 731 ∷ 762 ∷ 790 ∷ 821 ∷ 851 ∷ 882 ∷ 912 ∷ 943 ∷ 974 ∷ 1004 ∷ 1035 ∷ 1065 ∷ 1096 ∷ 1127 ∷ 1155 ∷ 1186 ∷ 1216 ∷ 1247 ∷ 1277 ∷ 1308 ∷ 1339 ∷ 1369 ∷ 1400 ∷ 1430 ∷ 1461 ∷ []
-
-pub cycle-starts : (k : ℕ) → k < 49 → get_or cycle_starts k 0 ≡ start k
+-- the code's table of the days of a cycle before each of its months
+pub cycle-starts : (k : ℕ) → k < 49 → get_or CYCLE_STARTS k 0 ≡ start k
 unfolding start
-cycle-starts k h = table cycle_starts start refl k h
+cycle-starts k h = table CYCLE_STARTS start refl k h
 
 -- within a cycle no month is longer than 31 days, and two months are longer than any day's number in them tells
 abbrev two_on : ℕ → Bool
@@ -140,11 +138,7 @@ not-given k n y h = cond_above k n (Some y) None None h refl
 
 pub told : {A : Type 0} (b : Bool) (x y : A) → Some x ≡ when b y → (b ≡ true) × (x ≡ y)
 told true x y e = (refl, cc)
-told false x y e = absurd (let z : ◌≡◌ {A = ℕ} 0 1 = cc in omega arith)
-
-pub not-told : {A : Type 0} (b : Bool) (y : A) → when b y ≡ None → b ≡ false
-not-told true y e = absurd (let z : ◌≡◌ {A = ℕ} 0 1 = cc in omega arith)
-not-told false y e = refl
+told false x y e = absurd cc
 
 -- the days of a month, from the answers on its first day and its length
 pub month-told : (m a n : ℕ) → Some a ≡ first_day m → Some n ≡ month_length m → (m < 1200) × (a ≡ start m) × (a + n ≡ start (m + 1))

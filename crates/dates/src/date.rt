@@ -5,6 +5,11 @@ ghost use Rattle.dates.specs.Written.{date_in, date_of, day_of, month_name, date
 use crate::months::{first_day, month_length, month_of};
 use std::fmt;
 
+// The first year, and the year after the last.
+const FIRST_YEAR: u32 = 2000;
+
+const END_YEAR: u32 = 2100;
+
 // A year, a month of the year from 1 to 12, and a day of the month from 1. Any numbers may stand in it: `day_of` tells.
 #[derive(Clone, Copy, PartialEq, Eq, Debug)]
 pub struct Date {
@@ -19,7 +24,7 @@ fn date_in(month: u32, first: u32, day: u32) -> Date
     ensures { result ≡ date_in month (day - first) }
 {
     Date {
-        year: 2000 + month / 12,
+        year: FIRST_YEAR + month / 12,
         month: month % 12 + 1,
         day: day - first + 1,
     }
@@ -39,16 +44,15 @@ pub fn date_of(day: u32) -> Option<Date>
 pub fn day_of(date: Date) -> Option<u32>
     ensures { result ≡ day_of date }
 {
-    if date.year < 2000 || date.year >= 2100 || date.month < 1 || date.month > 12 {
+    if !(FIRST_YEAR..END_YEAR).contains(&date.year) || !(1..=12).contains(&date.month) {
         return None;
     }
-    let month = 12 * (date.year - 2000) + (date.month - 1);
+    let month = 12 * (date.year - FIRST_YEAR) + (date.month - 1);
     let first = first_day(month)?;
     let length = month_length(month)?;
-    if date.day < 1 || date.day > length {
-        return None;
-    }
-    Some(first + (date.day - 1))
+    (1..=length)
+        .contains(&date.day)
+        .then(|| first + (date.day - 1))
 }
 
 // The name of a month by its number in the year, 1 to 12.
@@ -76,9 +80,6 @@ impl fmt::Display for Date {
     ghost output = { λ d. Some (date_text d) };
 
     fn fmt<W: fmt::Write>(&self, f: &mut fmt::Formatter<W>) -> fmt::Result {
-        let day = self.day;
-        let month = month_name(self.month);
-        let year = self.year;
-        write!(f, "{day} {month} {year}")
+        write!(f, "{} {} {}", self.day, month_name(self.month), self.year)
     }
 }

@@ -5,5 +5,5 @@ mod months;
 mod weekday;
 
 pub use date::{Date, date_of, day_of, month_name};
-pub use months::{first_day, month_length, month_of};
+pub use months::{DAY_COUNT, MONTH_COUNT, first_day, month_length, month_of};
 pub use weekday::{Weekday, is_weekday, weekday_of};

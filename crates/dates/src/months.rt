@@ -2,6 +2,11 @@
 ghost use Rattle.std.specs.Prelude.{◌≡◌, ℕ, ◌+◌, ◌*◌, ◌/◌, ◌%◌, ◌<◌, ◌≤◌, MatchOption};
 ghost use Rattle.dates.specs.Dates.{days_in, start, month_of, month_of_day, first_day, month_length, InMonth, DaysAndMonths};
 
+// How many days there are, from 1 January 2000 to 31 December 2099, and in how many months.
+pub const DAY_COUNT: u32 = 36_525;
+
+pub const MONTH_COUNT: u32 = 1200;
+
 // The days of each month of a common year.
 const LENGTHS: [u32; 12] = [31, 28, 31, 30, 31, 30, 31, 31, 30, 31, 30, 31];
 
@@ -53,10 +58,7 @@ pub fn month_of(day: u32) -> Option<u32>
     ensures inside { MatchOption result (36525 ≤ day) (λ m. InMonth day m × (m < 1200)) }
     ensures law { DaysAndMonths }
 {
-    if day >= 36_525 {
-        return None;
-    }
-    Some(month_in_range(day))
+    (day < DAY_COUNT).then(|| month_in_range(day))
 }
 
 // How many days of the range come before a month.
@@ -73,10 +75,7 @@ pub fn first_day(month: u32) -> Option<u32>
     ensures is { result ≡ first_day month }
     ensures inside { MatchOption result (1200 ≤ month) (λ d. d + days_in month ≤ 36525) }
 {
-    if month >= 1200 {
-        return None;
-    }
-    Some(days_before(month))
+    (month < MONTH_COUNT).then(|| days_before(month))
 }
 
 // How many days a month has.
@@ -84,13 +83,9 @@ pub fn month_length(month: u32) -> Option<u32>
     ensures is { result ≡ month_length month }
     ensures bound { MatchOption result (1200 ≤ month) (λ n. (28 ≤ n) × (n ≤ 31)) }
 {
-    if month >= 1200 {
+    if month >= MONTH_COUNT {
         return None;
     }
     let days = LENGTHS[(month % 12) as usize];
-    Some(if month % CYCLE_MONTHS == 1 {
-        days + 1
-    } else {
-        days
-    })
+    Some(days + u32::from(month % CYCLE_MONTHS == 1))
 }

@@ -58,7 +58,6 @@ impl fmt::Display for Weekday {
     ghost output = { λ w. Some (weekday_name w) };
 
     fn fmt<W: fmt::Write>(&self, f: &mut fmt::Formatter<W>) -> fmt::Result {
-        let name = name(*self);
-        write!(f, "{name}")
+        f.write_str(name(*self))
     }
 }

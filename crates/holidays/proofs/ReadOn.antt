@@ -1,5 +1,5 @@
 -- Reading days line by line. Assumes nothing.
-use Rattle.std.proofs.Common.{◌≡◌, ℕ, ◌+◌, List, [], ◌∷◌, ◌++◌, Some, None, Ok, Err, Option, Result, sym, refl, ap, ◌∙◌, arith}
+use Rattle.std.proofs.Common.{◌≡◌, ℕ, ◌+◌, List, [], ◌∷◌, ◌++◌, Some, None, Ok, Err, Option, Result, sym, refl, ap, ◌∙◌}
 use Rattle.std.specs.Option.{ok_or}
 use Rattle.std.proofs.lemmas.List.{append_assoc, append-nil}
 use Rattle.holidays.specs.declared.file.ReadFault.{ReadFault}
@@ -17,12 +17,12 @@ after_one days n day (Err bad) = refl
 
 -- what the answer of `line_day` says of its line
 accepted : (o : Option ℕ) (fault : ReadFault) {day : ℕ} → Ok day ≡ ok_or o fault → o ≡ Some day
-accepted None fault h = absurd (let z : ◌≡◌ {A = ℕ} 0 1 = cc in omega arith)
+accepted None fault h = absurd cc
 accepted (Some d) fault h = cc
 
 refused : (o : Option ℕ) (fault : ReadFault) {e : ReadFault} → Err e ≡ ok_or o fault → (o ≡ None) × (e ≡ fault)
 refused None fault h = (refl, cc)
-refused (Some d) fault h = absurd (let z : ◌≡◌ {A = ℕ} 0 1 = cc in omega arith)
+refused (Some d) fault h = absurd cc
 
 -- n lines of a text are read, and the lines that are left begin with one line and go on with the others
 pub goes_on : (days : List ℕ) (n : ℕ) (days' : List ℕ) (others : List (List ℕ)) {n' number day : ℕ} {line : List ℕ} {left : List (List ℕ)} {whole : Result (List ℕ) ℕ} → after days (days_from (n + 1) left) ≡ whole → left ≡ line ∷ others → n' ≡ n + 1 → number ≡ n' → Ok day ≡ ok_or (iso_day line) (NotADate number) → days' ≡ days ++ day ∷ [] → after days' (days_from (n' + 1) others) ≡ whole

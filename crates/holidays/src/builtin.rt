@@ -24,14 +24,10 @@ fn days_in_2008(heap: Global, closed: &[(u32, u32)]) -> Result<Vec<u32>, AllocEr
     ensures { IfOk result (λ v. v.items ≡ days_in2008 closed.now) }
 {
     let year = 2008;
-    let mut days = Vec::new(heap);
-    for date in closed {
-        let (month, day) = *date;
-        if let Some(day) = day_of(Date { year, month, day }) {
-            days.push(day)?;
-        }
-    }
-    Ok(days)
+    closed
+        .iter()
+        .filter_map(|&(month, day)| day_of(Date { year, month, day }))
+        .collect(heap)
 }
 
 // The closed days of 2008.

@@ -38,9 +38,9 @@ pub fn iso_day(line: &[u8]) -> Option<u32>
     if line.len() != 10 || line[4] != b'-' || line[7] != b'-' {
         return None;
     }
-    let year = digits(&line[0..4])?;
+    let year = digits(&line[..4])?;
     let month = digits(&line[5..7])?;
-    let day = digits(&line[8..10])?;
+    let day = digits(&line[8..])?;
     day_of(Date { year, month, day })
 }
 

@@ -27,11 +27,10 @@ past s end next e =
     (λ le. drop_all next s (omega arith) ∙ sym (drop_all (suc end) s (omega arith)))
     (cases_lt end (length s))
 
--- the step of a reader from `at` to `next`, where the rest of the text begins with a line of i bytes; the checker reads
--- `&s[at..]` as the first `take`, and a part `[0..i]` of it as the second
-pub next-line : (s s' : List ℕ) (at i next : ℕ) → at < length s → First 10 (take (length s - at) (drop at s)) i → s' ≡ s → next ≡ at + i + cond (ltb (at + i) (length s)) 1 0 → lines_from at s ≡ take (i - 0) (take (length s - at) (drop at s)) ∷ lines_from next s'
+-- the step of a reader from `at` to `next`, where the rest of the text begins with a line of i bytes; the check reads
+-- `&s[at..]` as the first `take`, and a part `[..i]` of it as the second
+pub next-line : (s s' : List ℕ) (at i next : ℕ) → at < length s → First 10 (take (length s - at) (drop at s)) i → s' ≡ s → next ≡ at + i + cond (ltb (at + i) (length s)) 1 0 → lines_from at s ≡ take i (take (length s - at) (drop at s)) ∷ lines_from next s'
 next-line s s' at i next p h e n =
-    let z : i - 0 ≡ i = omega arith in
     let f : First 10 (drop at s) i = rw take_rest at h in
     let d : drop next s ≡ drop (suc i) (drop at s) = rw (drop-drop, add-suc) (past s (at + i) next n) in
-    rw (z, take_rest, e, d) (first-line (drop at s) i (omega (arith, length-drop at s)) f)
+    rw (take_rest, e, d) (first-line (drop at s) i (omega (arith, length-drop at s)) f)

@@ -5,13 +5,6 @@ use Rattle.std.proofs.lemmas.List.{at_drop_more, at_drop_all}
 use Rattle.std.proofs.lemmas.Bool.Decides.{nat_tests}
 use Rattle.text.specs.Numbers.{is_digit, read_on, digits_value}
 
-pub digit-yes : (b : ℕ) → 48 ≤ b → b ≤ 57 → is_digit b ≡ true
-digit-yes b h k = grind (arith, nat_tests)
-
-pub digit-no : (b : ℕ) → (b < 48) ⊎ (57 < b) → is_digit b ≡ false
-digit-no b (inl h) = grind (arith, nat_tests)
-digit-no b (inr h) = grind (arith, nat_tests)
-
 pub wrong-length : (s : List ℕ) → (length s ≡ 0) ⊎ (9 < length s) → None ≡ digits_value s
 unfolding digits_value
 wrong-length s (inl h) = grind (arith, nat_tests)
@@ -36,8 +29,5 @@ ends n s i h = at_drop_all (read_on n) s i h
 pub digit-more : (n i d : ℕ) → n < 10 ^ i → d < 10 → 10 * n + d < 10 ^ (i + 1)
 digit-more n i d h k = rw (add-one, pow-suc) (omega arith)
 
-pub nine-digits : (i : ℕ) → i ≤ 9 → 10 ^ i ≤ 1000000000
-nine-digits i h = pow-le-pow_right {n = 10} (omega arith) {i = i} {j = 9} h
-
-pub eight-digits : (i : ℕ) → i ≤ 8 → 10 ^ i ≤ 100000000
-eight-digits i h = pow-le-pow_right {n = 10} (omega arith) {i = i} {j = 8} h
+pub ten-power : (i j : ℕ) → i ≤ j → 10 ^ i ≤ 10 ^ j
+ten-power i j h = pow-le-pow_right {n = 10} (omega arith) {i = i} {j = j} h

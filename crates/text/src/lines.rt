@@ -7,12 +7,7 @@ ghost use Rattle.text.specs.Lines.{lines_from, Takes, First};
 fn find(s: &[u8], b: u8) -> usize
     ensures { First b s.now result }
 {
-    for (i, x) in s.iter().enumerate() {
-        if *x == b {
-            return i;
-        }
-    }
-    s.len()
+    s.iter().position(|&x| x == b).unwrap_or(s.len())
 }
 
 // A text, how many of its bytes are read, and how many lines.
@@ -52,13 +47,8 @@ impl<'a> Reader<'a> {
         ensures place { self.new.at ≡ end + (if nat_lt end (length self.old.bytes.now) then 1 else 0) }
         ensures count { self.new.line ≡ self.old.line + 1 }
     {
-        let Reader { bytes, line, .. } = *self;
-        let next = if end < bytes.len() { end + 1 } else { end };
-        *self = Reader {
-            bytes,
-            at: next,
-            line: line + 1,
-        };
+        self.at = if end < self.bytes.len() { end + 1 } else { end };
+        self.line += 1;
     }
 
     // The next line, without its line feed.
@@ -75,6 +65,6 @@ impl<'a> Reader<'a> {
         let rest = &bytes[start..];
         let end = find(rest, b'\n');
         self.pass(start + end);
-        Some(&rest[0..end])
+        Some(&rest[..end])
     }
 }

@@ -12,10 +12,10 @@ pub fn digits(s: &[u8]) -> Option<u32>
     }
     let mut n = 0u32;
     for b in s {
-        if *b < b'0' || *b > b'9' {
+        if !b.is_ascii_digit() {
             return None;
         }
-        n = 10 * n + (*b - b'0') as u32;
+        n = 10 * n + u32::from(*b - b'0');
     }
     Some(n)
 }

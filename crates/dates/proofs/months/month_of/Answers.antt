@@ -1,7 +1,5 @@
-use Rattle.std.proofs.Common.{arith}
-use Rattle.dates.proofs.MonthLaws.{not-given, days-and-months}
+use Rattle.dates.proofs.MonthLaws.{days-and-months}
 use Rattle.dates.proofs.months.month_of.Goals as goal
 
-pub returns-then-day-ge36525 : goal.returns-then-day-ge36525
-returns-then-day-ge36525 c =
-    record { is = not-given c.args.day 36525 _ (omega arith); inside = omega arith; law = days-and-months }
+pub returns-clause-law : goal.returns-clause-law
+returns-clause-law c = days-and-months

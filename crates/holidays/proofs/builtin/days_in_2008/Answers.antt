@@ -1,19 +1,10 @@
-use Rattle.std.proofs.Common.{vec_items, ap, ◌∙◌}
-use Rattle.std.proofs.lemmas.List.{take_all}
-use Rattle.holidays.specs.Builtin.{days_in2008}
-use Rattle.holidays.proofs.DayByDay.{one_more, none_more}
+use Rattle.std.proofs.Common.{rules, tests}
+use Rattle.std.proofs.lemmas.Iterator.{items_from_collect, YieldsList-from_slice}
+use Rattle.std.proofs.lemmas.Iterator.Consumers.{YieldsList-from_filter_map}
+use Rattle.holidays.specs.Builtin.{day_in2008}
+use Rattle.holidays.proofs.DayByDay.{filter_map-day_in2008}
 use Rattle.holidays.proofs.builtin.days_in_2008.Goals as goal
-use Rattle.holidays.proofs.builtin.days_in_2008.Goals.{in-Some+in_ok-push, in_default}
-
-pub loop-date-preserved : goal.loop-date-preserved
-loop-date-preserved c =
-    let closed = c.args.closed.now in
-    let i = c.loop-date.date-index in
-    let lt = c.loop-date-test.true in
-    elim c.match-day_of.branch [
-      | in-Some+in_ok-push w ↦ ap vec_items w.days-is ∙ one_more closed i (vec_items w.push.new.self) lt c.loop-date.invariant w.in-Some.ensures w.in_ok-push.ensures.items
-      | in_default w ↦ ap vec_items w.days-is ∙ none_more closed i lt c.loop-date.invariant w.in_default.ensures
-    ]
 
 pub returns : goal.returns
-returns c = c.loop-date.invariant ∙ ap days_in2008 (take_all c.loop-date.date-index c.args.closed.now c.loop-date-test.false)
+returns c =
+    rw (← filter_map-day_in2008 c.args.closed.now) (items_from_collect _ c.collect.ensures.ran (YieldsList-from_filter_map _ day_in2008 (YieldsList-from_slice c.args.closed.now cc) c.filter_map.ensures.closure (λ x r q k. search (rules, tests))))

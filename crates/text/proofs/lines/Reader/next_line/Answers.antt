@@ -10,12 +10,8 @@ returns-then-start-bytes c =
     let none = ap lines (drop_all c.args.self.now.at c.args.self.now.bytes.now c.if-start-bytes.true) in
     record { same = refl; takes = (none, none); count = omega arith }
 
-pub returns : goal.returns
-returns c =
+pub returns-clause-takes : goal.returns-clause-takes
+returns-clause-takes c =
     let reader = c.args.self.now in
     let next = c.pass.new.self in
-    record {
-      same = c.pass.ensures.same;
-      takes = next-line reader.bytes.now next.bytes.now reader.at c.find-end.result next.at c.if-start-bytes.false c.find-end.ensures c.pass.ensures.same c.pass.ensures.place;
-      count = c.pass.ensures.count;
-    }
+    next-line reader.bytes.now next.bytes.now reader.at c.find-end.result next.at c.if-start-bytes.false c.find-end.ensures c.pass.ensures.same c.pass.ensures.place

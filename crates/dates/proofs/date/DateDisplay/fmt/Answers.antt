@@ -1,4 +1,0 @@
-use Rattle.dates.proofs.date.DateDisplay.fmt.Goals as goal
-
-pub returns-clause-writes : goal.returns-clause-writes
-returns-clause-writes g c p e = rw c.month_name-month.ensures at (c.write.ensures.writes p e)
