@@ -1,14 +1,13 @@
 -- Sums and products of signed numbers, as the checker has them: each number through its bits. Assumes nothing.
-use Rattle.std.proofs.Common.{◌≡◌, ℕ, ◌*◌, ◌^◌, ◌<◌, ◌≤◌, ℤ, pos, negsuc, ◌+ℤ◌, ◌*ℤ◌, nat_abs, ◌∙◌, arith, SFits, to_z, of_z}
+use Rattle.std.proofs.Common.{◌≡◌, ℕ, ◌*◌, ◌^◌, ◌<◌, ◌≤◌, ℤ, ◌+ℤ◌, ◌*ℤ◌, nat_abs, ◌∙◌, arith, SFits, to_z, of_z}
 use lib.Signed.{nat_abs-le}
 use mir.Syntax.{Width}
 use mir.Val.{hbits}
-use Rattle.std.proofs.lemmas.Int.{to_z-of_z}
+use Rattle.std.proofs.lemmas.Int.{to_z-of_z, fits_signed_from_abs}
 use Rattle.amounts.proofs.Ring.{product_le}
 
 pub small-fits : (w : Width) (z : ℤ) → nat_abs z < 2 ^ hbits w → SFits w z
-small-fits w (pos n) h = record { sfits = h }
-small-fits w (negsuc n) h = record { sfits = omega arith }
+small-fits = fits_signed_from_abs
 
 pub fits-size : {w : Width} (z : ℤ) → SFits w z → nat_abs z ≤ 2 ^ hbits w
 fits-size z f = nat_abs-le z f.sfits

@@ -1,7 +1,7 @@
 -- The ring laws of ℤ that the library lacks, the signs of products and their sizes. Assumes nothing.
-use Rattle.std.proofs.Common.{◌≡◌, ℕ, zero, suc, ◌*◌, ◌≤◌, ℤ, pos, negsuc, ◌+ℤ◌, ◌-ℤ◌, ◌*ℤ◌, neg_ℤ, nat_abs, ◌≤ℤ◌, sym, refl, ap, ◌∙◌, le_trans, mul-le-mul_right, mul-le-mul_left, arith}
-use lib.IntN.{pred_ℤ, +ℤ_idl, +ℤ_invr, zero-*ℤ, *ℤ_comm, suc_ℤ-*ℤ, pred_ℤ-*ℤ, suc_ℤ-+ℤ, pred_ℤ-+ℤ}
-use Rattle.std.proofs.lemmas.Int.{ints}
+use Rattle.std.proofs.Common.{◌≡◌, ℕ, zero, suc, ◌*◌, ◌≤◌, ℤ, pos, negsuc, ◌+ℤ◌, ◌-ℤ◌, ◌*ℤ◌, neg_ℤ, nat_abs, ◌≤ℤ◌, sym, ap, ◌∙◌, le_trans, mul-le-mul_right, mul-le-mul_left, arith}
+use lib.IntN.{pred_ℤ, +ℤ_idl, zero-*ℤ, *ℤ_comm, suc_ℤ-*ℤ, pred_ℤ-*ℤ, suc_ℤ-+ℤ, pred_ℤ-+ℤ}
+use Rattle.std.proofs.lemmas.Int.{ints, unsigned_abs-mul}
 
 -- one more and one less in the first factor
 suc-times : (m : ℕ) (k : ℤ) → pos (suc m) *ℤ k ≡ pos m *ℤ k +ℤ k
@@ -27,7 +27,7 @@ pub *ℤ-left-distrib : (k m n : ℤ) → k *ℤ (m +ℤ n) ≡ k *ℤ m +ℤ k 
 
 -- a minus moves out of either factor
 pub neg-*ℤ : (m k : ℤ) → neg_ℤ m *ℤ k ≡ neg_ℤ (m *ℤ k)
-neg-*ℤ m k = omega (arith, ints, *ℤ-right-distrib m (neg_ℤ m) k, ap (λ x. x *ℤ k) (+ℤ_invr m), zero-*ℤ k)
+neg-*ℤ m k = grind (arith, ints)
 
 pub *ℤ-neg : (k m : ℤ) → k *ℤ neg_ℤ m ≡ neg_ℤ (k *ℤ m)
 *ℤ-neg k m = *ℤ_comm k (neg_ℤ m) ∙ neg-*ℤ m k ∙ ap neg_ℤ (*ℤ_comm m k)
@@ -51,15 +51,5 @@ pub *ℤ-mono : (n : ℕ) (a b : ℤ) → a ≤ℤ b → (pos n *ℤ a) ≤ℤ (
 *ℤ-mono zero a b h = omega (arith, ints, zero-*ℤ a, zero-*ℤ b)
 *ℤ-mono (suc n) a b h = omega (arith, ints, suc-times n a, suc-times n b, *ℤ-mono n a b h)
 
-nat_abs-neg : (n : ℕ) → nat_abs (neg_ℤ (pos n)) ≡ n
-nat_abs-neg zero = refl
-nat_abs-neg (suc n) = refl
-
-pub nat_abs-* : (a b : ℤ) → nat_abs (a *ℤ b) ≡ nat_abs a * nat_abs b
-nat_abs-* (pos a) (pos b) = refl
-nat_abs-* (pos a) (negsuc b) = nat_abs-neg (a * suc b)
-nat_abs-* (negsuc a) (pos b) = nat_abs-neg (suc a * b)
-nat_abs-* (negsuc a) (negsuc b) = refl
-
 pub product_le : (a b : ℤ) (m n : ℕ) → nat_abs a ≤ m → nat_abs b ≤ n → nat_abs (a *ℤ b) ≤ m * n
-product_le a b m n h k = rw nat_abs-* (le_trans (mul-le-mul_right (nat_abs b) h) (mul-le-mul_left m k))
+product_le a b m n h k = rw unsigned_abs-mul (le_trans (mul-le-mul_right (nat_abs b) h) (mul-le-mul_left m k))

@@ -1,10 +1,10 @@
 #![tactic(auto)]
 // Arithmetic of margins and payments, in whole cents.
+mod holding;
 mod margins;
 mod payments;
-mod products;
 mod step;
 
-pub use margins::{class_margin, repricing_addition, step_result, total_margin};
-pub use payments::{final_payment, part_payment, variation};
+pub use holding::Holding;
+pub use margins::total_margin;
 pub use step::Step;

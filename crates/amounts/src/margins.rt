@@ -3,7 +3,7 @@ ghost use Rattle.std.specs.Prelude.{◌≡◌, ◌^◌, ◌≤◌, pos, ◌*ℤ�
 ghost use Rattle.amounts.specs.Amounts.{floor_by, Brackets, step_product, step_result, class_margin, LeastOfTen, repricing_addition, total_margin, Capped};
 ghost use Rattle.amounts.specs.Steps.{factor_of};
 
-use crate::products::{of_lots, price_move, times};
+use crate::holding::{Holding, times};
 use crate::step::Step;
 
 // How far a step moves the price, in parts of which 50,000 are a cent.
@@ -11,13 +11,6 @@ fn price_step(price: i32, interval: u16, factor: i8) -> i64
     ensures { result ≡ price *ℤ pos interval *ℤ factor }
 {
     i64::from(price) * i64::from(interval) * i64::from(factor)
-}
-
-// What the step makes of the lots, in the same parts.
-fn step_product(price: i32, interval: u16, quantity: u32, lots: i32, factor: i8) -> i128
-    ensures { result ≡ step_product price interval quantity lots factor }
-{
-    times(price_step(price, interval, factor), of_lots(quantity, lots))
 }
 
 // Whole cents, rounded down.
@@ -28,34 +21,44 @@ fn floored(parts: i128) -> i128
     parts.div_euclid(50_000)
 }
 
-// What one step gives: the exact product, and then the one rounding.
-pub fn step_result(price: i32, interval: u16, quantity: u32, lots: i32, step: Step) -> i128
-    ensures is { result ≡ step_result price interval quantity lots (factor_of step) }
-    ensures floor { Brackets 50000 (step_product price interval quantity lots (factor_of step)) result }
+// What a step makes of the quantity of all lots: the exact product, and then the one rounding.
+fn step_cents(price: i32, interval: u16, whole: i64, step: Step) -> i128
+    ensures is { result ≡ floor_by 50000 (price *ℤ pos interval *ℤ factor_of step *ℤ whole) }
+    ensures floor { Brackets 50000 (price *ℤ pos interval *ℤ factor_of step *ℤ whole) result }
 {
-    floored(step_product(price, interval, quantity, lots, step.factor()))
+    floored(times(price_step(price, interval, step.factor()), whole))
 }
 
-// The initial margin of a class: the least of the ten steps' results. It is never positive.
-pub fn class_margin(price: i32, interval: u16, quantity: u32, lots: i32) -> i128
-    ensures is { result ≡ class_margin price interval quantity lots }
-    ensures least { LeastOfTen price interval quantity lots result }
-    ensures bound { unsigned_abs result ≤ 2 ^ 98 }
-{
-    let mut least = step_result(price, interval, quantity, lots, Step::D5);
-    let steps = Step::all();
-    for step in &steps {
-        least = least.min(step_result(price, interval, quantity, lots, *step));
+impl Holding {
+    // What one step gives: the exact product, and then the one rounding.
+    pub fn step_result(&self, price: i32, interval: u16, step: Step) -> i128
+        ensures is { result ≡ step_result price interval self.now.quantity self.now.lots (factor_of step) }
+        ensures floor { Brackets 50000 (step_product price interval self.now.quantity self.now.lots (factor_of step)) result }
+    {
+        step_cents(price, interval, self.whole_quantity(), step)
     }
-    least
-}
 
-// The mark-to-market margin of a class that has a repricing.
-pub fn repricing_addition(quantity: u32, lots: i32, repriced: i32, last: i32) -> i128
-    ensures is { result ≡ repricing_addition quantity lots repriced last }
-    ensures bound { unsigned_abs result ≤ 2 ^ 96 }
-{
-    price_move(quantity, lots, repriced, last)
+    // The initial margin of a class: the least of the ten steps' results. It is never positive.
+    pub fn margin(&self, price: i32, interval: u16) -> i128
+        ensures is { result ≡ class_margin price interval self.now.quantity self.now.lots }
+        ensures least { LeastOfTen price interval self.now.quantity self.now.lots result }
+        ensures bound { unsigned_abs result ≤ 2 ^ 98 }
+    {
+        let whole = self.whole_quantity();
+        Step::all()
+            .iter()
+            .map(|step| step_cents(price, interval, whole, *step))
+            .min()
+            .unwrap_or(0)
+    }
+
+    // The mark-to-market margin of a class that has a repricing.
+    pub fn repricing_addition(&self, repriced: i32, last: i32) -> i128
+        ensures is { result ≡ repricing_addition self.now.quantity self.now.lots repriced last }
+        ensures bound { unsigned_abs result ≤ 2 ^ 96 }
+    {
+        self.price_move(repriced, last)
+    }
 }
 
 // An account's margin, from the sum over its classes: a credit is never paid out.

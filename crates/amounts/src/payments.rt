@@ -2,15 +2,7 @@
 ghost use Rattle.std.specs.Prelude.{◌≡◌, ◌^◌, ◌<◌, ◌≤◌, pos, ◌-ℤ◌, ◌*ℤ◌, unsigned_abs};
 ghost use Rattle.amounts.specs.Amounts.{variation, part_payment, final_payment, OtherSidePays};
 
-use crate::products::{price_move, times};
-
-// The lots at the last close.
-fn lots_before(lots: i32, traded: i32) -> i64
-    ensures is { result ≡ lots -ℤ traded }
-    ensures bound { unsigned_abs result ≤ 2 ^ 32 }
-{
-    i64::from(lots) - i64::from(traded)
-}
+use crate::holding::{Holding, times};
 
 // What lots are worth at a price, for one unit of quantity.
 fn worth(price: i32, lots: i64) -> i128
@@ -30,41 +22,52 @@ fn gain(now: i128, before: i128, cost: i64) -> i128
     now - before - i128::from(cost)
 }
 
-fn for_quantity(quantity: u32, gain: i128) -> i128
-    requires { unsigned_abs gain < 2 ^ 65 }
-    ensures is { result ≡ pos quantity *ℤ gain }
-    ensures bound { unsigned_abs result ≤ 2 ^ 98 }
-    ensures other_side { OtherSidePays }
-{
-    i128::from(quantity) * gain
-}
+impl Holding {
+    // The lots at the last close.
+    fn lots_before(&self, traded: i32) -> i64
+        ensures is { result ≡ self.now.lots -ℤ traded }
+        ensures bound { unsigned_abs result ≤ 2 ^ 32 }
+    {
+        i64::from(self.lots) - i64::from(traded)
+    }
 
-// The variation margin of a day: `price` is the day's and `last` the last price, `lots` are the lots now, `traded` the
-// lots of the day's trades and `cost` the sum of lots × price over them, a buy positive and a sell negative.
-pub fn variation(quantity: u32, price: i32, lots: i32, last: i32, traded: i32, cost: i64) -> i128
-    ensures is { result ≡ variation quantity price lots last traded cost }
-    ensures bound { unsigned_abs result ≤ 2 ^ 98 }
-    ensures other_side { OtherSidePays }
-{
-    let now = worth(price, i64::from(lots));
-    let before = worth(last, lots_before(lots, traded));
-    for_quantity(quantity, gain(now, before, cost))
-}
+    // What a gain for one unit of quantity comes to.
+    fn for_quantity(&self, gain: i128) -> i128
+        requires { unsigned_abs gain < 2 ^ 65 }
+        ensures is { result ≡ pos self.now.quantity *ℤ gain }
+        ensures bound { unsigned_abs result ≤ 2 ^ 98 }
+        ensures other_side { OtherSidePays }
+    {
+        i128::from(self.quantity) * gain
+    }
 
-// What the lots of a class are paid for one part of it: by the part's quantity, and the last prices of part and whole.
-pub fn part_payment(quantity: u32, lots: i32, part: i32, whole: i32) -> i128
-    ensures is { result ≡ part_payment quantity lots part whole }
-    ensures bound { unsigned_abs result ≤ 2 ^ 96 }
-    ensures other_side { OtherSidePays }
-{
-    price_move(quantity, lots, part, whole)
-}
+    // The variation margin of a day: `price` is the day's and `last` the last price, the lots are the lots now, `traded` the
+    // lots of the day's trades and `cost` the sum of lots × price over them, a buy positive and a sell negative.
+    pub fn variation(&self, price: i32, last: i32, traded: i32, cost: i64) -> i128
+        ensures is { result ≡ variation self.now.quantity price self.now.lots last traded cost }
+        ensures bound { unsigned_abs result ≤ 2 ^ 98 }
+        ensures other_side { OtherSidePays }
+    {
+        let now = worth(price, i64::from(self.lots));
+        let before = worth(last, self.lots_before(traded));
+        self.for_quantity(gain(now, before, cost))
+    }
 
-// The final settlement of lots at the price that they are settled at.
-pub fn final_payment(quantity: u32, lots: i32, settled: i32, last: i32) -> i128
-    ensures is { result ≡ final_payment quantity lots settled last }
-    ensures bound { unsigned_abs result ≤ 2 ^ 96 }
-    ensures other_side { OtherSidePays }
-{
-    price_move(quantity, lots, settled, last)
+    // What the lots of a class are paid for one part of it: by the part's quantity, and the last prices of part and whole.
+    pub fn part_payment(&self, part: i32, whole: i32) -> i128
+        ensures is { result ≡ part_payment self.now.quantity self.now.lots part whole }
+        ensures bound { unsigned_abs result ≤ 2 ^ 96 }
+        ensures other_side { OtherSidePays }
+    {
+        self.price_move(part, whole)
+    }
+
+    // The final settlement of lots at the price that they are settled at.
+    pub fn final_payment(&self, settled: i32, last: i32) -> i128
+        ensures is { result ≡ final_payment self.now.quantity self.now.lots settled last }
+        ensures bound { unsigned_abs result ≤ 2 ^ 96 }
+        ensures other_side { OtherSidePays }
+    {
+        self.price_move(settled, last)
+    }
 }

@@ -37,7 +37,8 @@ impl Step {
         STEPS
     }
 
-    // By how many fifths of the interval the price moves.
+    // By how many fifths of the interval the price moves. A match: as the variants' numbers a factor that stands twice would
+    // not compile, and no contract would have to refuse it.
     pub fn factor(self) -> i8
         ensures { result ≡ factor_of self }
     {

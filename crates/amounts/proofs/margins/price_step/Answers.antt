@@ -3,21 +3,15 @@ use Rattle.std.proofs.lemmas.Int.{ints}
 use Rattle.amounts.proofs.Exact.{Exact, exact}
 use Rattle.amounts.proofs.Ring.{product_le}
 use Rattle.amounts.proofs.margins.price_step.Goals as goal
-use Rattle.amounts.proofs.margins.price_step.Goals.{After-from-2, After-from-3}
+use Rattle.amounts.proofs.margins.price_step.Goals.{After-from-3}
 
-first : (c : After-from-2) → Exact w64 c.from.result c.from-2.result (c.args.price *ℤ pos c.args.interval)
-first c = exact w64 c.from.result c.from-2.result c.args.price (pos c.args.interval) (2 ^ 31) (2 ^ 16) (omega (arith, ints)) (omega (arith, ints)) (omega (arith, ints)) (omega (arith, ints)) (lit< tt)
-
-second : (c : After-from-3) → Exact w64 (to_z w64 (of_z w64 c.from.result) *ℤ to_z w64 (of_z w64 c.from-2.result)) c.from-3.result (c.args.price *ℤ pos c.args.interval *ℤ c.args.factor)
-second c =
+product : (c : After-from-3) → Exact w64 (to_z w64 (of_z w64 c.from.result) *ℤ to_z w64 (of_z w64 c.from-2.result)) c.from-3.result (c.args.price *ℤ pos c.args.interval *ℤ c.args.factor)
+product c =
     let size = product_le c.args.price (pos c.args.interval) (2 ^ 31) (2 ^ 16) (omega (arith, ints)) (omega (arith, ints)) in
-    exact w64 _ c.from-3.result (c.args.price *ℤ pos c.args.interval) c.args.factor (2 ^ 47) (2 ^ 7) (first (goal.at.After-from-3 c).After-from-2).is (omega (arith, ints)) size (omega (arith, ints)) (lit< tt)
-
-pub overflow_mul-result : goal.overflow_mul-result
-overflow_mul-result c = (first c).fits
+    exact w64 _ c.from-3.result (c.args.price *ℤ pos c.args.interval) c.args.factor (2 ^ 47) (2 ^ 7) (grind (arith, ints)) (omega (arith, ints)) size (omega (arith, ints)) (lit< tt)
 
 pub overflow_mul-result-2 : goal.overflow_mul-result-2
-overflow_mul-result-2 c = (second c).fits
+overflow_mul-result-2 c = (product c).fits
 
 pub returns : goal.returns
-returns c = (second c).is
+returns c = (product c).is

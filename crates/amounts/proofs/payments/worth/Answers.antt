@@ -5,7 +5,7 @@ use Rattle.amounts.proofs.Exact.{fits-size}
 use Rattle.amounts.proofs.Ring.{product_le}
 use Rattle.amounts.proofs.payments.worth.Goals as goal
 
-pub returns : goal.returns
-returns c =
+pub returns-clause-bound : goal.returns-clause-bound
+returns-clause-bound c =
     let e : to_z w128 (of_z w128 c.times.result) ≡ c.args.price *ℤ c.args.lots = grind (arith, to_z-of_z) in
-    record { is = e; bound = rw e (product_le c.args.price c.args.lots (2 ^ 31) (2 ^ 32) (fits-size _ c.ranges.price) c.requires) }
+    rw e (product_le c.args.price c.args.lots (2 ^ 31) (2 ^ 32) (fits-size _ c.ranges.price) c.requires)
