@@ -5,7 +5,7 @@ ghost use Rattle.closing.specs.Closing.{newest_by, variation_by, part_of, part_b
 ghost use Rattle.ledger.specs.Words.{or_zero};
 
 use crate::closing::Closing;
-use amounts::{part_payment, variation};
+use amounts::Holding;
 use ledger::ClassPrices;
 
 // A missing price counts as 0.
@@ -49,14 +49,11 @@ impl Closing {
         }
         let today = or_zero(prices[class].today);
         let last = or_zero(prices[class].last);
-        variation(
-            self.classes[class].quantity,
-            today,
-            lots[class],
-            last,
-            traded[class],
-            cost[class],
-        )
+        let holding = Holding {
+            quantity: self.classes[class].quantity,
+            lots: lots[class],
+        };
+        holding.variation(today, last, traded[class], cost[class])
     }
 
     // The same over all classes.
@@ -102,7 +99,11 @@ impl Closing {
         }
         let new = or_zero(self.newest(prices, part));
         let old = or_zero(self.newest(prices, class));
-        part_payment(self.classes[part].quantity, lots[class], new, old)
+        let holding = Holding {
+            quantity: self.classes[part].quantity,
+            lots: lots[class],
+        };
+        holding.part_payment(new, old)
     }
 
     // The same over the parts of a class.

@@ -10,6 +10,7 @@ ghost use Rattle.ledger.specs.Tables.{at};
 use crate::book::Book;
 use crate::settle::or_zero;
 use crate::tables::Tables;
+use amounts::Holding;
 use ledger::{ClassPrices, Fault};
 use terms::Terms;
 
@@ -29,7 +30,7 @@ fn repricing_of(prices: &ClassPrices, quantity: u32, lots: i32) -> i128
     ensures bound { unsigned_abs result ≤ 2 ^ 100 }
 {
     match prices.repriced {
-        Some(price) => amounts::repricing_addition(quantity, lots, price, or_zero(prices.last)),
+        Some(price) => Holding { quantity, lots }.repricing_addition(price, or_zero(prices.last)),
         None => 0,
     }
 }
@@ -47,7 +48,7 @@ fn margin_of(prices: &ClassPrices, interval: u16, quantity: u32, lots: i32) -> i
     ensures is { result ≡ margin_of prices.now.repriced prices.now.last interval quantity lots }
     ensures bound { unsigned_abs result ≤ 2 ^ 101 }
 {
-    let initial = amounts::class_margin(margin_price(prices), interval, quantity, lots);
+    let initial = Holding { quantity, lots }.margin(margin_price(prices), interval);
     added(initial, repricing_of(prices, quantity, lots))
 }
 

@@ -15,6 +15,7 @@ ghost use Rattle.ledger.specs.declared.call.Call.TheVariants.{Settle};
 use crate::book::Book;
 use crate::mark::price_fits;
 use crate::tables::{Account, Tables};
+use amounts::Holding;
 use ledger::{Fault, Payment};
 use terms::Terms;
 
@@ -32,7 +33,11 @@ impl Account {
         ensures is { result ≡ final_payment quantity (at self.now.lots class) price last }
         ensures bound { unsigned_abs result ≤ 2 ^ 110 }
     {
-        amounts::final_payment(quantity, self.lots[class as usize], price, last)
+        let holding = Holding {
+            quantity,
+            lots: self.lots[class as usize],
+        };
+        holding.final_payment(price, last)
     }
 
     fn empty(&mut self, class: u32)
