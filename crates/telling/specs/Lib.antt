@@ -1,3 +1,4 @@
+pub mod Longest
 pub mod Products
 pub mod Wording
 pub mod Years

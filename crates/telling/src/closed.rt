@@ -1,16 +1,17 @@
 // The buyer's closed days, and the calendar that they make.
+ghost use Rattle.std.specs.Prelude.{◌≡◌, IfOk, MatchOption};
+ghost use Rattle.calendars.specs.Refusals.{Accepted, Refused};
+ghost use Rattle.calendars.specs.declared.fault.ListFault.{ListFault};
+
 use crate::year;
 use calendars::ListCalendar;
-use std::alloc::AllocError;
 use std::env::{self, Env};
 use std::fs::{self, Files};
 use std::io;
 
 // The buyer's closed days: those of the file that the first argument names, or the built-in ones. None where the file is
 // no list of dates, which is then said.
-pub fn closed_days(
-    rt: &(impl Print + Env + Files + AllocGlobal),
-) -> io::Result<Option<Vec<u32>>> {
+pub fn closed_days(rt: &(impl Print + Env + Files + AllocGlobal)) -> io::Result<Option<Vec<u32>>> {
     let heap = rt.alloc();
     let mut args = env::args(rt)?;
     let _ = args.next();
@@ -28,7 +29,10 @@ pub fn closed_days(
             )?;
             Ok(None)
         }
-        Err(holidays::ReadFault::NoMemory) => Err(AllocError.into()),
+        Err(holidays::ReadFault::NoMemory) => Err(io::Error::new(
+            io::ErrorKind::OutOfMemory,
+            "no memory for the closed days",
+        )),
     }
 }
 
@@ -38,7 +42,9 @@ pub fn tell_list(
     rt: &(impl Print + AllocGlobal),
     closed: Vec<u32>,
     year: u32,
-) -> io::Result<Option<ListCalendar>> {
+) -> io::Result<Option<ListCalendar>>
+    ensures { IfOk result (λ o. MatchOption o ((f : ListFault) × Refused closed.items f) (λ c. (c.closed ≡ closed) × Accepted closed.items)) }
+{
     let count = closed.len();
     match ListCalendar::new(closed) {
         Ok(calendar) => {
