@@ -1,146 +1,104 @@
 // One contract through its classes, until each of its months has reached the settling class.
-use crate::wording::{Product, day_text, months_text};
+use std::array;
+use telling::{Product, day_text, longest_class, months_text};
 use terms::{Months, Terms, TermsOpenDays};
 
-// The longest tradable class of a day, the last of them.
-fn longest_class<T: Terms>(terms: &T, day: u32) -> Option<(u32, Months)> {
-    let mut longest: Option<(u32, Months)> = None;
-    for class in 0..terms.classes() {
-        if let Some(here) = terms.class_on(day, class) {
-            let most = match longest {
-                Some((_, months)) => months.count,
-                None => 0,
-            };
-            if here.tradable && here.months.count >= most {
-                longest = Some((class, here.months));
-            }
-        }
-    }
-    longest
+// A contract: the class that is bought on a day, and its months.
+#[derive(Clone, Copy, PartialEq, Eq, Debug)]
+pub struct Contract {
+    pub day: u32,
+    pub class: u32,
+    pub months: Months,
 }
 
-// The class of each of the twelve months from `first` on after the close of a day.
-fn handed_over<T: Terms>(terms: &T, day: u32, first: u32, holders: &[u32; 12]) -> [u32; 12] {
-    let mut next = *holders;
-    for i in 0..12u32 {
-        let class = holders[i as usize];
-        if class != terms.settling() {
-            let month = first.saturating_add(i);
-            next[i as usize] = terms::heir(terms, day, class, month).unwrap_or(class);
-        }
-    }
-    next
+// The classes of a month before a day's close and after it.
+#[derive(Clone, Copy, PartialEq, Eq, Debug)]
+struct Handover {
+    from: u32,
+    to: u32,
 }
 
-// How many months from place `i` on, before `count`, go from the same class to the same class.
-fn run_length(before: &[u32; 12], after: &[u32; 12], i: u32, count: u32) -> u32 {
-    let mut length: u32 = 0;
-    for j in i..count {
-        if i < 12
-            && j < 12
-            && before[j as usize] == before[i as usize]
-            && after[j as usize] == after[i as usize]
-        {
-            length = length.saturating_add(1);
-        } else {
-            break;
+// What the close of a day does to the twelve months from `first` on.
+fn handovers<T: Terms>(terms: &T, day: u32, first: u32, holders: &[u32; 12]) -> [Handover; 12] {
+    array::from_fn(|i| {
+        let from = holders[i];
+        if from == terms.settling() {
+            return Handover { from, to: from };
         }
-    }
-    length
+        let month = first.saturating_add(i as u32);
+        let to = terms::heir(terms, day, from, month).unwrap_or(from);
+        Handover { from, to }
+    })
 }
 
 fn quantity<T: Terms>(terms: &T, first: u32, count: u32) -> u32 {
-    let mut sum: u32 = 0;
-    for i in 0..count {
-        sum = sum.saturating_add(terms.month_quantity(first.saturating_add(i)).unwrap_or(0));
-    }
-    sum
+    (0..count)
+        .map(|i| terms.month_quantity(first.saturating_add(i)).unwrap_or(0))
+        .fold(0, |sum: u32, amount| sum.saturating_add(amount))
 }
 
+// A line for each run of months that go from the same class to the same class.
 fn tell_changes<T: Terms>(
     rt: &HostRuntime,
     product: Product,
     terms: &T,
-    months: Months,
-    before: &[u32; 12],
-    after: &[u32; 12],
+    first: u32,
+    handovers: &[Handover],
 ) -> anyhow::Result<()> {
-    let mut skip = 0;
-    for i in 0..months.count.min(12) {
-        if skip > 0 {
-            skip -= 1;
-            continue;
-        }
-        if before[i as usize] != after[i as usize] {
-            let length = run_length(before, after, i, months.count.min(12));
-            let name = months_text(rt.alloc(), months.first.saturating_add(i), length)?;
-            let from = product.class_text(before[i as usize]);
-            let to = product.class_text(after[i as usize]);
+    let mut month = first;
+    for run in handovers.chunk_by(|a, b| a == b) {
+        let length = u32::try_from(run.len()).unwrap_or(u32::MAX);
+        if run[0].from != run[0].to {
+            let name = months_text(rt.alloc(), month, length)?;
+            let from = product.class_text(run[0].from);
+            let to = product.class_text(run[0].to);
             let unit = product.unit();
-            let amount = quantity(terms, months.first.saturating_add(i), length);
+            let amount = quantity(terms, month, length);
             println!(rt; "    {name}: from {from} to {to}, {amount} {unit}.")?;
-            skip = length.saturating_sub(1);
         }
+        month = month.saturating_add(length);
     }
     Ok(())
-}
-
-fn all_at(holders: &[u32; 12], class: u32, count: u32) -> bool {
-    for i in 0..count.min(12) {
-        if holders[i as usize] != class {
-            return false;
-        }
-    }
-    true
-}
-
-fn any_change(before: &[u32; 12], after: &[u32; 12], count: u32) -> bool {
-    for i in 0..count.min(12) {
-        if before[i as usize] != after[i as usize] {
-            return true;
-        }
-    }
-    false
 }
 
 fn follow<T: Terms>(
     rt: &HostRuntime,
     product: Product,
     terms: &T,
-    start: u32,
-    class: u32,
-    months: Months,
+    bought: Contract,
 ) -> anyhow::Result<()> {
-    let mut holders = [class; 12];
-    let mut day = start;
+    let count = bought.months.count.min(12) as usize;
+    let mut holders = [bought.class; 12];
+    let mut day = bought.day;
     for _ in 0..2000 {
-        let after = handed_over(terms, day, months.first, &holders);
-        if any_change(&holders, &after, months.count) {
+        let all = handovers(terms, day, bought.months.first, &holders);
+        let told = &all[..count];
+        if told.iter().any(|month| month.from != month.to) {
             let date = day_text(rt.alloc(), day)?;
             println!(rt; "  After the close of {date}:")?;
-            tell_changes(rt, product, terms, months, &holders, &after)?;
+            tell_changes(rt, product, terms, bought.months.first, told)?;
         }
-        holders = after;
-        if all_at(&holders, terms.settling(), months.count) {
+        if told.iter().all(|month| month.to == terms.settling()) {
             println!(rt; "  Each month has reached the settling class.")?;
             return Ok(());
         }
-        match calendars::next_after(&TermsOpenDays { terms }, day) {
-            Some(next) => day = next,
-            None => return Ok(()),
-        }
+        holders = all.map(|month| month.to);
+        let Some(next) = calendars::next_after(&TermsOpenDays { terms }, day) else {
+            return Ok(());
+        };
+        day = next;
     }
     Ok(())
 }
 
 // The class that is bought in the story's first month, on its first open day.
-pub fn bought<T: Terms>(terms: &T, year: u32) -> Option<(u32, u32, Months)> {
-    let start = calendars::first_in_month(
+pub fn bought<T: Terms>(terms: &T, year: u32) -> Option<Contract> {
+    let day = calendars::first_in_month(
         &TermsOpenDays { terms },
         year.saturating_add(bench::START_IN_YEAR),
     )?;
-    let (class, months) = longest_class(terms, start)?;
-    Some((start, class, months))
+    let (class, months) = longest_class(terms, day)?;
+    Some(Contract { day, class, months })
 }
 
 // The longest contract, bought on the first open day of the story's month.
@@ -150,15 +108,15 @@ pub fn tell<T: Terms>(
     terms: &T,
     year: u32,
 ) -> anyhow::Result<()> {
-    let Some((start, class, months)) = bought(terms, year) else {
+    let Some(bought) = bought(terms, year) else {
         println!(rt; "No class is tradable then, so no contract is followed.")?;
         return Ok(());
     };
-    let date = day_text(rt.alloc(), start)?;
-    let name = product.class_text(class);
+    let date = day_text(rt.alloc(), bought.day)?;
+    let name = product.class_text(bought.class);
     let unit = product.unit();
-    let span = months_text(rt.alloc(), months.first, months.count)?;
-    let amount = terms::quantity_of(terms, start, class);
+    let span = months_text(rt.alloc(), bought.months.first, bought.months.count)?;
+    let amount = terms::quantity_of(terms, bought.day, bought.class);
     println!(rt; "On {date} a lot of {name} is bought: {span}, {amount} {unit} in all.")?;
-    follow(rt, product, terms, start, class, months)
+    follow(rt, product, terms, bought)
 }

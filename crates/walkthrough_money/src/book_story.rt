@@ -1,33 +1,13 @@
 // One position from the trade to the final settlement, with its money.
 use crate::journal::Journal;
 use crate::margin_story;
-use crate::wording::{Product, day_text, months_text};
 use ledger::Call;
-use terms::{Months, Terms};
-
-// The longest tradable class of a day, the last of them.
-fn longest_class<T: Terms>(terms: &T, day: u32) -> Option<(u32, Months)> {
-    let mut longest: Option<(u32, Months)> = None;
-    for class in 0..terms.classes() {
-        if let Some(here) = terms.class_on(day, class) {
-            let most = match longest {
-                Some((_, months)) => months.count,
-                None => 0,
-            };
-            if here.tradable && here.months.count >= most {
-                longest = Some((class, here.months));
-            }
-        }
-    }
-    longest
-}
+use telling::{Product, day_text, longest_class, months_text};
+use terms::Terms;
 
 // The settlement price of a class on a day: dearer for later months of the year, and moving from day to day.
 fn settlement_price<T: Terms>(terms: &T, day: u32, class: u32) -> Option<i32> {
-    let here = terms.class_on(day, class)?;
-    if !here.tradable {
-        return None;
-    }
+    let here = terms.class_on(day, class).filter(|here| here.tradable)?;
     let month = (here.months.first % 12) as i32;
     let step = (day % 5) as i32;
     Some(bench::PRICE + 25 * month - 20 * step)
@@ -40,9 +20,7 @@ fn tell_holdings<T: Terms>(
     journal: &Journal<T>,
 ) -> anyhow::Result<()> {
     let day = journal.book.day();
-    let holdings = journal.holdings();
-    for class in 0..12u32 {
-        let lots = holdings[class as usize];
+    for (class, lots) in (0..12u32).zip(journal.holdings()) {
         if lots != 0 {
             if let Some(here) = journal.book.terms().class_on(day, class) {
                 let name = product.class_text(class);
@@ -56,17 +34,17 @@ fn tell_holdings<T: Terms>(
     Ok(())
 }
 
-// The trade that begins the story.
+// The trade that begins the story, and whether it was made.
 fn open_position<T: Terms>(
     rt: &HostRuntime,
     product: Product,
     journal: &mut Journal<T>,
-) -> anyhow::Result<Option<Months>> {
+) -> anyhow::Result<bool> {
     let day = journal.book.day();
     let date = day_text(rt.alloc(), day)?;
     let Some((class, months)) = longest_class(journal.book.terms(), day) else {
         println!(rt; "No class is tradable on {date}.")?;
-        return Ok(None);
+        return Ok(false);
     };
     let price = bench::PRICE;
     let trade = Call::Trade {
@@ -76,8 +54,8 @@ fn open_position<T: Terms>(
         lots: 1,
         price,
     };
-    if journal.call(trade)?.is_some() {
-        return Ok(None);
+    if journal.call(trade)?.is_err() {
+        return Ok(false);
     }
     let name = product.class_text(class);
     let span = months_text(rt.alloc(), months.first, months.count)?;
@@ -86,7 +64,7 @@ fn open_position<T: Terms>(
     println!(rt;
         "On {date} account 0 buys 1 lot of {name} from account 1 at {price} cents: {span}, {amount} {unit} in all."
     )?;
-    Ok(Some(months))
+    Ok(true)
 }
 
 fn mark_all<T: Terms>(journal: &mut Journal<T>) -> anyhow::Result<()> {
@@ -112,7 +90,7 @@ fn settle<T: Terms>(
     let held = journal.book.holding(0, class).unwrap_or(0) != 0;
     let before = journal.cash(0);
     let price = bench::FINAL_PRICE;
-    if journal.call(Call::Settle { price, room: 2 })?.is_none() && held {
+    if journal.call(Call::Settle { price, room: 2 })?.is_ok() && held {
         let date = day_text(rt.alloc(), journal.book.day())?;
         let name = product.class_text(class);
         let paid = journal.cash(0).saturating_sub(before);
@@ -124,20 +102,20 @@ fn settle<T: Terms>(
     Ok(())
 }
 
-// Whether account 0 holds lots in a class that is not tradable and has a last price.
+// The first class that is not tradable and has a last price, in which account 0 holds lots.
 fn delivery_class<T: Terms>(journal: &Journal<T>) -> Option<u32> {
     let day = journal.book.day();
-    let holdings = journal.holdings();
-    for class in 0..12u32 {
-        if holdings[class as usize] != 0 && journal.book.last_price(class).is_some() {
-            if let Some(here) = journal.book.terms().class_on(day, class) {
-                if !here.tradable {
-                    return Some(class);
-                }
-            }
-        }
-    }
-    None
+    (0..12u32)
+        .zip(journal.holdings())
+        .filter(|(class, lots)| *lots != 0 && journal.book.last_price(*class).is_some())
+        .map(|(class, _)| class)
+        .find(|class| {
+            journal
+                .book
+                .terms()
+                .class_on(day, *class)
+                .is_some_and(|here| !here.tradable)
+        })
 }
 
 // A repricing moves margins and no cash. It is told once, and the answer says whether it was.
@@ -152,7 +130,7 @@ fn reprice<T: Terms>(
     let before = journal.book.margins(0).unwrap_or(0);
     let cash = journal.cash(0);
     let price = bench::PRICE - 400;
-    if journal.call(Call::Reprice { class, price })?.is_some() {
+    if journal.call(Call::Reprice { class, price })?.is_err() {
         return Ok(false);
     }
     let date = day_text(rt.alloc(), journal.book.day())?;
@@ -183,7 +161,7 @@ fn close<T: Terms>(
     let date = day_text(rt.alloc(), journal.book.day())?;
     let before = journal.holdings();
     let cash = journal.cash(0);
-    if journal.call(Call::Close { room: 2 })?.is_some() {
+    if journal.call(Call::Close { room: 2 })?.is_err() {
         return Ok(quiet);
     }
     let paid = journal.cash(0).saturating_sub(cash);
@@ -209,15 +187,14 @@ fn holds_nothing<T: Terms>(journal: &Journal<T>) -> bool {
     journal.holdings() == [0; 12]
 }
 
-// The whole life of one position; the months that it was bought for.
+// The whole life of one position.
 pub fn tell<T: Terms>(
     rt: &HostRuntime,
     product: Product,
     journal: &mut Journal<T>,
-) -> anyhow::Result<Option<Months>> {
-    let months = open_position(rt, product, journal)?;
-    if months.is_none() {
-        return Ok(None);
+) -> anyhow::Result<()> {
+    if !open_position(rt, product, journal)? {
+        return Ok(());
     }
     let mut quiet = Quiet { closes: 0, paid: 0 };
     let mut repriced = false;
@@ -225,7 +202,7 @@ pub fn tell<T: Terms>(
         settle(rt, product, journal)?;
         if holds_nothing(journal) {
             println!(rt; "  All its months are settled, and account 0 holds nothing.")?;
-            return Ok(months);
+            return Ok(());
         }
         if !repriced {
             repriced = reprice(rt, product, journal)?;
@@ -236,5 +213,5 @@ pub fn tell<T: Terms>(
             margin_story::tell(rt, product, journal)?;
         }
     }
-    Ok(months)
+    Ok(())
 }

@@ -1,8 +1,9 @@
 // A book, with the list of all the calls that it was handed and their answers.
-use coded::ClassLine;
 use book::Book;
+use coded::ClassLine;
 use ledger::{Call, Entry, Fault};
 use std::alloc::{AllocError, Global};
+use std::array;
 use terms::Terms;
 
 #[derive(Drop)]
@@ -13,14 +14,10 @@ pub struct Journal<T: Terms> {
 
 // A line for each class, with the bench's interval.
 pub fn class_lines() -> [ClassLine; 12] {
-    let mut lines = [ClassLine {
-        class: 0,
+    array::from_fn(|class| ClassLine {
+        class: class as u32,
         interval: bench::INTERVAL,
-    }; 12];
-    for class in 0..12u32 {
-        lines[class as usize].class = class;
-    }
-    lines
+    })
 }
 
 impl<T: Terms> Journal<T> {
@@ -31,36 +28,30 @@ impl<T: Terms> Journal<T> {
     {
         let lines = class_lines();
         let classes = terms.classes().min(12) as usize;
-        match Book::make(terms, month, 2, &lines[..classes]) {
-            Ok(book) => Some(Journal {
-                book,
-                entries: Vec::new(heap),
-            }),
-            Err(_) => None,
-        }
+        let book = Book::make(terms, month, 2, &lines[..classes]).ok()?;
+        Some(Journal {
+            book,
+            entries: Vec::new(heap),
+        })
     }
 
     // Hands a call to the book and notes it with its answer.
-    pub fn call(&mut self, call: Call) -> Result<Option<Fault>, AllocError> {
+    pub fn call(&mut self, call: Call) -> Result<Result<(), Fault>, AllocError> {
         let answer = self.book.call(call);
-        self.entries.push(Entry { call, answer })?;
+        self.entries.push(Entry {
+            call,
+            answer: answer.err(),
+        })?;
         Ok(answer)
     }
 
     // An account's cash.
     pub fn cash(&self, account: u32) -> i128 {
-        match self.book.cash(account) {
-            Ok(cash) => i128::from(cash),
-            Err(_) => 0,
-        }
+        self.book.cash(account).map_or(0, i128::from)
     }
 
     // The lots of account 0 by class.
     pub fn holdings(&self) -> [i32; 12] {
-        let mut lots = [0; 12];
-        for class in 0..12u32 {
-            lots[class as usize] = self.book.holding(0, class).unwrap_or(0);
-        }
-        lots
+        array::from_fn(|class| self.book.holding(0, class as u32).unwrap_or(0))
     }
 }

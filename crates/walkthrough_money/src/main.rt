@@ -1,43 +1,16 @@
 #![tactic(auto)]
 // Follows one real task from start to end and says in plain sentences what took place.
 mod book_story;
-mod calendar_story;
 mod journal;
 mod margin_story;
-mod wording;
 
 use crate::journal::Journal;
-use crate::wording::Product;
 use anyhow::anyhow;
 use calendars::ListCalendar;
 use power::{Baseload, Power};
-use std::{env, fs};
+use telling::Product;
 use terms::Terms;
 use wheat::Wheat;
-
-// The buyer's closed days: those of the file that the first argument names, or the built-in ones. None where the file is
-// no list of dates, which is then said.
-fn closed_days(rt: &HostRuntime) -> anyhow::Result<Option<Vec<u32>>> {
-    let heap = rt.alloc();
-    let mut args = env::args(rt)?;
-    let _ = args.next();
-    let Some(path) = args.next() else {
-        println!(rt; "The buyer brings no file, so the built-in list of closed days is taken.")?;
-        return Ok(Some(holidays::builtin_days(heap)?));
-    };
-    let bytes = fs::read(rt, path.as_str())?;
-    println!(rt; "The buyer loads his closed days from {path}.")?;
-    match holidays::read_days(heap, bytes.as_slice()) {
-        Ok(days) => Ok(Some(days)),
-        Err(holidays::ReadFault::NotADate { line }) => {
-            println!(rt;
-                "It is refused: line {line} is no date of the form YYYY-MM-DD from 2000 to 2099."
-            )?;
-            Ok(None)
-        }
-        Err(holidays::ReadFault::NoMemory) => Err(anyhow!("no memory for the closed days")),
-    }
-}
 
 // One position's life over terms.
 fn tell_position<T: Terms + Drop>(
@@ -51,59 +24,34 @@ fn tell_position<T: Terms + Drop>(
         println!(rt; "No book can be made from that month on.")?;
         return Ok(());
     };
-    let _ = book_story::tell(rt, product, &mut journal)?;
-    Ok(())
+    book_story::tell(rt, product, &mut journal)
 }
 
 // The calendar of a list that was accepted before.
 fn calendar_of(closed: Vec<u32>) -> anyhow::Result<ListCalendar> {
-    match ListCalendar::new(closed) {
-        Ok(calendar) => Ok(calendar),
-        Err(_) => Err(anyhow!("the list is no calendar")),
-    }
+    ListCalendar::new(closed).map_err(|_| anyhow!("the list is no calendar"))
 }
 
-fn baseload(closed: Vec<u32>) -> anyhow::Result<Power<ListCalendar, Baseload>> {
-    Ok(Power {
-        calendar: calendar_of(closed)?,
-        profile: Baseload,
-    })
-}
-
-fn wheat_over(closed: Vec<u32>) -> anyhow::Result<Wheat<ListCalendar>> {
-    Ok(Wheat {
-        calendar: calendar_of(closed)?,
-    })
-}
-
-fn tell_products(rt: &HostRuntime, closed: Vec<u32>, year: u32) -> anyhow::Result<()> {
-    tell_position(rt, Product::Power, baseload(closed.clone()?)?, year)?;
-    tell_position(rt, Product::Wheat, wheat_over(closed)?, year)
-}
-
+// Both positions, each over a calendar of its own.
 fn tell(rt: &HostRuntime, closed: Vec<u32>) -> anyhow::Result<()> {
-    let count = closed.len();
-    let year = calendar_story::year_of(rt, closed.as_slice())?;
-    match ListCalendar::new(closed.clone()?) {
-        Ok(calendar) => {
-            println!(rt; "The list of {count} closed days is accepted.")?;
-            calendar_story::tell(rt, &calendar, year)?;
-            tell_products(rt, closed, year)
-        }
-        Err(refused) => {
-            let number = refused.fault.number();
-            let reason = refused.fault;
-            println!(rt;
-                "The list of {count} closed days is refused by question {number}: {reason}."
-            )?;
-            Ok(())
-        }
-    }
+    let year = telling::first_month(rt.alloc(), closed.as_slice())?;
+    let Some(calendar) = telling::tell_list(rt, closed.clone()?, year)? else {
+        return Ok(());
+    };
+    let power = Power {
+        calendar,
+        profile: Baseload,
+    };
+    tell_position(rt, Product::Power, power, year)?;
+    let wheat = Wheat {
+        calendar: calendar_of(closed)?,
+    };
+    tell_position(rt, Product::Wheat, wheat, year)
 }
 
 fn run(rt: &HostRuntime) -> anyhow::Result<()> {
     println!(rt; "Tekkuvazh, a margin book for power and durum-wheat futures.")?;
-    match closed_days(rt)? {
+    match telling::closed_days(rt)? {
         Some(closed) => tell(rt, closed),
         None => Ok(()),
     }

@@ -1,20 +1,16 @@
 // The initial margin of the position on its first evening, step by step.
 use crate::journal::Journal;
-use crate::wording::Product;
-use amounts::Step;
+use amounts::{Holding, Step};
+use telling::Product;
 use terms::Terms;
 
 // The first class in which account 0 holds lots, and its last price.
 fn held_class<T: Terms>(journal: &Journal<T>) -> Option<(u32, i32, i32)> {
-    let holdings = journal.holdings();
-    for class in 0..12u32 {
-        let lots = holdings[class as usize];
-        if lots != 0 {
-            let price = journal.book.last_price(class)?;
-            return Some((class, lots, price));
-        }
-    }
-    None
+    let (class, lots) = (0..12u32)
+        .zip(journal.holdings())
+        .find(|(_, lots)| *lots != 0)?;
+    let price = journal.book.last_price(class)?;
+    Some((class, lots, price))
 }
 
 pub fn tell<T: Terms>(
@@ -27,12 +23,15 @@ pub fn tell<T: Terms>(
     };
     let name = product.class_text(class);
     let interval = bench::INTERVAL;
-    let quantity = terms::quantity_of(journal.book.terms(), journal.book.day(), class);
+    let holding = Holding {
+        quantity: terms::quantity_of(journal.book.terms(), journal.book.day(), class),
+        lots,
+    };
     println!(rt;
         "  Its initial margin at the last price of {name}, {price} cents, and an interval of {interval} hundredths of a percent:"
     )?;
     for step in Step::all() {
-        let result = amounts::step_result(price, interval, quantity, lots, step);
+        let result = holding.step_result(price, interval, step);
         println!(rt; "    step {step:?}: {result} cents")?;
     }
     let margin = journal.book.margins(0).unwrap_or(0);

@@ -1,0 +1,4 @@
+pub mod Longest
+pub mod Products
+pub mod Wording
+pub mod Years
