@@ -37,9 +37,9 @@ module _ (n : ℕ) (t : Tables) (s : Sound n t) (pays : ℕ → ℤ) (g : ℕ �
 
   -- accounts in use were paid and changed, the others stayed
   accounts-same :
-    ((a : ℕ) → a < t.count → g a (credited (account_of t a) (pays a)) ≡ get_or ys a no_account) →
-    ((a : ℕ) → a < 32 → Idle (account_of t a) → account_of t a ≡ get_or ys a no_account) →
-    each_below t.count g paid ≡ ys
+      ((a : ℕ) → a < t.count → g a (credited (account_of t a) (pays a)) ≡ get_or ys a no_account) →
+      ((a : ℕ) → a < 32 → Idle (account_of t a) → account_of t a ≡ get_or ys a no_account) →
+      each_below t.count g paid ≡ ys
   accounts-same here past =
       ext_get_or no_account (each_below t.count g paid) ys (length-below g paid t.count ∙ paid-long ∙ sym long)
       (λ a h.
@@ -77,8 +77,8 @@ module _ (w : Meaning) (n : ℕ) (t : Tables) (s : Sound n t) where
       count = t.count;
       accepted = t.accepted;
       accounts = accounts-same n t s (settle_pay w (view t) f) (λ a x. emptied w.settling x) (map F t.accounts) (length-map t.accounts F ∙ s.widths.0)
-        (λ a h. sym (get_or-map F t.accounts a no_account no_account (omega (arith, s.widths.0, s.counted.1))))
-        (λ a h e. idle-settled (account_of t a) e ∙ sym (get_or-map F t.accounts a no_account no_account (omega (arith, s.widths.0)))) i;
+          (λ a h. sym (get_or-map F t.accounts a no_account no_account (omega (arith, s.widths.0, s.counted.1))))
+          (λ a h e. idle-settled (account_of t a) e ∙ sym (get_or-map F t.accounts a no_account no_account (omega (arith, s.widths.0)))) i;
       prices = (settled_tables w t f).prices;
       lines = t.lines;
     }
@@ -108,8 +108,8 @@ module _ (w : Meaning) (n : ℕ) (t : Tables) (s : Sound n t) where
     count = t.count;
     accepted = t.accepted;
     accounts = accounts-same n t s (close_pay w (view t)) (carried_account w (view t)) (map G (range_with_len 0 32)) (length-map-range_with_len G 0 32)
-      (λ a h. sym (get_or-map-range_with_len G 0 32 a a no_account (omega (arith, s.counted.1)) (omega arith)))
-      (λ a h e. idle-closed a e ∙ sym (get_or-map-range_with_len G 0 32 a a no_account h (omega arith))) i;
+        (λ a h. sym (get_or-map-range_with_len G 0 32 a a no_account (omega (arith, s.counted.1)) (omega arith)))
+        (λ a h e. idle-closed a e ∙ sym (get_or-map-range_with_len G 0 32 a a no_account h (omega arith))) i;
     prices = (closed_tables w t).prices;
     lines = t.lines;
   }

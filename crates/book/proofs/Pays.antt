@@ -39,9 +39,11 @@ lines_more xs i pays h =
 -- a table of payments, where those of the first n are told, and none is large
 pub pays-made : {F : Type 0} (g : Mut F (ℕ × Unit {0}) ℤ) (s : F) (f : ℕ → ℤ) (n : ℕ) → ((i : ℕ) (y : ℤ) (q : F) → Called g s (i, tt) y q → (i < n → y ≡ f i) × (nat_abs y ≤ 2 ^ 110) × (q ≡ s)) → (pays : List ℤ) → IsFromFnResult g s pays 32 → ((a : ℕ) → a < 32 → a < n → at pays a ≡ f a) × SmallPays pays
 pays-made g s f n call pays r =
-    let each = each-made g s (λ i y. (i < n → y ≡ f i) × (nat_abs y ≤ 2 ^ 110)) (λ i y q k. let p = call i y q k in ((p.0, p.1), p.2)) pays 32 r in
-    (λ a h l. (each a (pos 0) h).0 l, λ a.
-    ⊎_elim
-    (λ (h : a < 32). (each a (pos 0) h).1)
-    (λ (h : 32 ≤ a). subst (λ (z : ℤ). nat_abs z ≤ 2 ^ 110) (sym (get_or_past pays a (pos 0) (omega (arith, r.long)))) (omega arith))
-    (cases_lt a 32))
+    let each = each-made g s (λ i y. (i < n → y ≡ f i) × (nat_abs y ≤ 2 ^ 110)) (λ i y q k. let p = call i y q k in ((p.0, p.1), p.2)) pays 32 r in (
+      λ a h l. (each a (pos 0) h).0 l,
+      λ a.
+          ⊎_elim
+          (λ (h : a < 32). (each a (pos 0) h).1)
+          (λ (h : 32 ≤ a). subst (λ (z : ℤ). nat_abs z ≤ 2 ^ 110) (sym (get_or_past pays a (pos 0) (omega (arith, r.long)))) (omega arith))
+          (cases_lt a 32),
+    )

@@ -17,10 +17,7 @@ use crate::tables::{Account, Tables};
 use closing::{Closing, Rows};
 use ledger::{ClassPrices, Fault, Payment};
 use std::array;
-use terms::Terms;
-
-// The first day of 2097.
-const END: u32 = 35_430;
+use terms::{END, Terms};
 
 // Whether there is a next open day by the end of 2096.
 fn is_by_end(next: Option<u32>) -> bool

@@ -25,10 +25,9 @@ fn repricing_of(prices: &ClassPrices, holding: Holding) -> i128
     ensures is { result ≡ repricing_of prices.now.repriced prices.now.last holding.quantity holding.lots }
     ensures bound { unsigned_abs result ≤ 2 ^ 100 }
 {
-    match prices.repriced {
-        Some(price) => holding.repricing_addition(price, prices.last.unwrap_or(0)),
-        None => 0,
-    }
+    prices.repriced.map_or(0, |price| {
+        holding.repricing_addition(price, prices.last.unwrap_or(0))
+    })
 }
 
 fn added(a: i128, b: i128) -> i128
@@ -55,6 +54,7 @@ impl Tables {
         ensures { result ≡ line_interval self.now.lines class }
     {
         let lines = &self.lines[..classes as usize];
+        // A `match`: what `find` tells of the place is not known inside a closure.
         match coded::find(lines, class) {
             Some(place) => lines[place].interval,
             None => 0,
@@ -83,6 +83,7 @@ impl<T: Terms> Book<T> {
     fn interval_of(&self, class: u32) -> u16
         ensures { result ≡ interval_of self.now.tables.lines ((T.meaning self.now.terms).on self.now.tables.day class) }
     {
+        // A `match`: that the terms have the class is not known inside a closure.
         match self.terms.class_on(self.tables.day, class) {
             Some(here) => self
                 .tables

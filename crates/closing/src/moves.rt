@@ -103,7 +103,9 @@ fn row_from(row: &[i64; 12], source: Option<u32>) -> i64
 fn repriced_at(prices: &[ClassPrices; 12], class: u32) -> Option<i32>
     ensures { result ≡ (prices_at prices.now class).repriced }
 {
-    prices.get(class as usize).and_then(|prices| prices.repriced)
+    prices
+        .get(class as usize)
+        .and_then(|prices| prices.repriced)
 }
 
 // The repricing of a class that may be none.

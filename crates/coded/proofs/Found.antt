@@ -15,7 +15,7 @@ place_none [] c h = refl
 place_none (x ∷ xs) c h =
     rw (ne_eqb x c (h 0 (omega arith)), place_none xs c (λ k l. h (suc k) (omega arith)))
 
-place-some : (xs : List ℕ) (c i : ℕ) → i < length xs → get_or xs i 0 ≡ c → ((k : ℕ) → k < i → get_or xs k 0 ≡ c → ⊥) → place xs c ≡ Some i
+pub place-some : (xs : List ℕ) (c i : ℕ) → i < length xs → get_or xs i 0 ≡ c → ((k : ℕ) → k < i → get_or xs k 0 ≡ c → ⊥) → place xs c ≡ Some i
 unfolding place
 place-some [] c i l e h = absurd (omega arith)
 place-some (x ∷ xs) c zero l e h = rw (eq-eqb x c e)

@@ -7,7 +7,7 @@ mod handover;
 mod quantity;
 mod terms;
 
-pub use answering::{DayInMonth, answered_day, answers_for};
+pub use answering::{DayInMonth, END, answered_day, answers_for};
 pub use class_row::{ClassRow, Period, class_name};
 pub use class_terms::{ClassTerms, Months};
 pub use handover::heir;

@@ -15,7 +15,7 @@ returns-in_err-may_reprice g c =
     let e = c.in_err-may_reprice.field-0.0 in
     let p = to_z-of_z w32 c.args.price c.ranges.price in
     let q : reprice_refusal w (view t) c.args.class c.args.price ≡ Some e =
-        ap (λ z. reprice_refusal w (view t) c.args.class z) (sym p) ∙ replied-err _ e (sym c.may_reprice.ensures.is ∙ c.in_err-may_reprice.was) in
+    ap (λ z. reprice_refusal w (view t) c.args.class z) (sym p) ∙ replied-err _ e (sym c.may_reprice.ensures.is ∙ c.in_err-may_reprice.was) in
     let same : t ≡ after_tables w t (Reprice c.args.class c.args.price) = kept _ e _ t q in
     record { answer = search rules; after = same; terms = search rules; life = lives-on w (g.met.T.Terms.lawful b.terms) t t _ same }
 

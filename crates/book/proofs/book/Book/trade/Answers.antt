@@ -17,7 +17,7 @@ returns-in_err-may_trade g c =
     let n = to_z-of_z w32 c.args.lots c.ranges.lots in
     let p = to_z-of_z w32 c.args.price c.ranges.price in
     let q : trade_refusal w (view t) c.args.buyer c.args.seller c.args.class c.args.lots c.args.price ≡ Some e =
-        (λ i. trade_refusal w (view t) c.args.buyer c.args.seller c.args.class (sym n i) (sym p i)) ∙ replied-err _ e (sym c.may_trade.ensures.is ∙ c.in_err-may_trade.was) in
+    (λ i. trade_refusal w (view t) c.args.buyer c.args.seller c.args.class (sym n i) (sym p i)) ∙ replied-err _ e (sym c.may_trade.ensures.is ∙ c.in_err-may_trade.was) in
     let same : t ≡ after_tables w t (Trade c.args.buyer c.args.seller c.args.class c.args.lots c.args.price) = kept _ e _ t q in
     record { answer = search rules; after = same; terms = search rules; life = lives-on w (g.met.T.Terms.lawful b.terms) t t _ same }
 

@@ -19,9 +19,9 @@ carry-requires c =
     let i = c.loop-account.account-index in
     let h : i < t.count = omega (arith, length-take t.count t.accounts, c.loop-account-test.true) in
     let same : get_or c.loop-account.account-items i no_account ≡ account_of t i =
-        ap (λ (xs : List Account). get_or xs i no_account) c.loop-account.invariant
-        ∙ below-past (λ a x. carried k x) (take t.count t.accounts) i i (omega arith)
-        ∙ get_or-take t.count t.accounts i no_account h in
+    ap (λ (xs : List Account). get_or xs i no_account) c.loop-account.invariant
+    ∙ below-past (λ a x. carried k x) (take t.count t.accounts) i i (omega arith)
+    ∙ get_or-take t.count t.accounts i no_account h in
     subst (λ (x : Account). (c : ℕ) → nat_abs (at (moved_lots k x.lots) c) ≤ 1000) (sym same) (λ c'. c.requires.1 i c' h)
 
 pub loop-account-preserved : goal.loop-account-preserved
