@@ -104,6 +104,8 @@ impl Tables {
     }
 }
 
+// Five numbers go together below and no struct holds them: the call of the law (`Call::Trade`) is that struct already, with
+// the same five fields, and a method of the book is told them one by one.
 impl<T: Terms> Book<T> {
     fn may_trade(
         &self,

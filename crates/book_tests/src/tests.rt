@@ -4,6 +4,7 @@ use calendars::Weekdays;
 use coded::ClassLine;
 use ledger::Fault;
 use power::{Baseload, Power};
+use std::array;
 use std::test::Fail;
 
 type PowerBook = Book<Power<Weekdays, Baseload>>;
@@ -17,11 +18,7 @@ fn line(class: u32) -> ClassLine {
 
 // The lines of the eleven classes of power.
 fn lines() -> [ClassLine; 11] {
-    let mut all = [line(0); 11];
-    for i in 0..11u32 {
-        all[i as usize] = line(i);
-    }
-    all
+    array::from_fn(|class| line(class as u32))
 }
 
 fn terms() -> Power<Weekdays, Baseload> {

@@ -23,7 +23,8 @@ pub struct ClassClosing {
     pub tradable_next: bool,
 }
 
-// All classes; whether another class succeeds to the settling class; the next open day.
+// All classes; whether another class succeeds to the settling class; the next open day. Methods take a class by its number
+// in the table, below 12: a type for such numbers would have to be made at every loop and call, and says no more.
 #[derive(Clone, Copy)]
 pub struct Closing {
     pub classes: [ClassClosing; 12],

@@ -43,6 +43,7 @@ impl Closing {
         ensures is { result ≡ sum_z 12 (given_by self.now lots.now part) }
         ensures bound { unsigned_abs result ≤ 2 ^ 31 * 12 }
     {
+        // A loop: of a sum of signed numbers the library says no bound.
         let mut sum = 0;
         for class in 0..12 {
             sum += i64::from(self.gives(lots, class, part));

@@ -23,6 +23,7 @@ fn or_zero(price: Option<i32>) -> i32
     price.unwrap_or(0)
 }
 
+// The price table is a parameter and no part of `Closing`: the book writes it while it still has the `Closing`.
 impl Closing {
     // The last price of a class once the day's prices have become the last ones.
     pub(crate) fn newest(&self, prices: &[ClassPrices; 12], class: usize) -> Option<i32>

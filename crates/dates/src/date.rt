@@ -10,7 +10,8 @@ const FIRST_YEAR: u32 = 2000;
 
 const END_YEAR: u32 = 2100;
 
-// A year, a month of the year from 1 to 12, and a day of the month from 1. Any numbers may stand in it: `day_of` tells.
+// A year, a month of the year from 1 to 12, and a day of the month from 1. Any numbers may stand in it, as people may write
+// them, so a month is a number here and no enum: `day_of` tells.
 #[derive(Clone, Copy, PartialEq, Eq, Debug)]
 pub struct Date {
     pub year: u32,

@@ -28,7 +28,8 @@ pub enum Fault {
 }
 
 impl Fault {
-    // The number of the question.
+    // The number of the question. A `match` and no discriminants: two questions with one number could not be written with
+    // those, and the check is to show that it refuses them.
     pub fn number(self) -> u8
         ensures { result ≡ fault_number self }
     {

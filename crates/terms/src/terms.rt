@@ -35,7 +35,8 @@ pub trait Terms {
     ghost lawful: { (t : Self) → Laws (meaning t) };
 }
 
-// The open days of terms, as a set to walk over.
+// The open days of terms, as a set to walk over. It stands beside that of a calendar, since one `impl` for both would
+// claim the sets of either for every type.
 #[derive(Drop)]
 pub struct TermsOpenDays<'a, T> {
     pub terms: &'a T,

@@ -1,0 +1,4 @@
+#![tactic(auto)]
+// Examples for the texts of the walkthroughs.
+#[cfg(test)]
+mod tests;
