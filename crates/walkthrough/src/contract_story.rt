@@ -1,4 +1,5 @@
 // One contract through its classes, until each of its months has reached the settling class.
+// The runtime, the product and its terms go from hand to hand: a struct of three borrows would say no more than their names.
 use std::array;
 use telling::{Product, day_text, longest_class, months_text};
 use terms::{Months, Terms, TermsOpenDays};

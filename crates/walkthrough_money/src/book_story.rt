@@ -1,4 +1,5 @@
 // One position from the trade to the final settlement, with its money.
+// The runtime, the product and the journal go from hand to hand: a struct of borrows would say no more than their names.
 use crate::journal::Journal;
 use crate::margin_story;
 use ledger::Call;
