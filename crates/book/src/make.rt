@@ -51,7 +51,8 @@ fn filled(lines: &[ClassLine]) -> [ClassLine; 12]
     all
 }
 
-// The questions of make.
+// The questions of make: the first that is answered no. What make is told is passed on as it is told: a struct of the four
+// would be made once and taken apart twice.
 fn may_make<T: Terms>(
     terms: &T,
     month: u32,

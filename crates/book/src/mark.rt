@@ -29,6 +29,7 @@ impl<T: Terms> Book<T> {
             .is_some_and(|here| here.tradable)
     }
 
+    // The questions of a mark: the first that is answered no.
     fn may_mark(&self, class: u32, price: i32) -> Result<(), Fault>
         ensures is { result ≡ reply (mark_refusal (T.meaning self.now.terms) (view self.now.tables) class price) tt }
         ensures known { result ≡ Ok tt → class < 12 }
@@ -62,11 +63,11 @@ impl<T: Terms> Book<T> {
         ensures known { result ≡ true → class < 12 }
     {
         class < self.terms.classes()
-            && class < 12
             && !self.is_tradable(class)
             && self.tables.prices[class as usize].last.is_some()
     }
 
+    // The questions of a repricing: the first that is answered no.
     fn may_reprice(&self, class: u32, price: i32) -> Result<(), Fault>
         ensures is { result ≡ reply (reprice_refusal (T.meaning self.now.terms) (view self.now.tables) class price) tt }
         ensures known { result ≡ Ok tt → class < 12 }
