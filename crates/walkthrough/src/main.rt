@@ -1,5 +1,5 @@
 #![tactic(auto)]
-// Follows one real task from start to end and says in plain sentences what took place.
+// Follows a year and its contracts, class by class, in plain sentences.
 mod contract_story;
 mod margin_story;
 

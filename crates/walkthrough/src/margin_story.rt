@@ -10,12 +10,12 @@ pub fn tell<T: Terms>(
     terms: &T,
     year: u32,
 ) -> anyhow::Result<()> {
-    let Some(bought) = bought(terms, year) else {
+    let Some(contract) = bought(terms, year) else {
         return Ok(());
     };
-    let name = product.class_text(bought.class);
+    let name = product.class_text(contract.class);
     let holding = Holding {
-        quantity: terms::quantity_of(terms, bought.day, bought.class),
+        quantity: terms::quantity_of(terms, contract.day, contract.class),
         lots: 1,
     };
     let price = bench::PRICE;
