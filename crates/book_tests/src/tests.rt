@@ -29,17 +29,13 @@ fn terms() -> Power<Weekdays, Baseload> {
 }
 
 fn number<T: Drop>(answer: Result<T, Fault>) -> u8 {
-    match answer {
-        Ok(_) => 0,
-        Err(fault) => fault.number(),
-    }
+    answer.err().map_or(0, |fault| fault.number())
 }
 
 fn make_number(month: u32, accounts: u32, lines: &[ClassLine]) -> u8 {
-    match PowerBook::make(terms(), month, accounts, lines) {
-        Ok(_) => 0,
-        Err(refused) => refused.fault.number(),
-    }
+    PowerBook::make(terms(), month, accounts, lines)
+        .err()
+        .map_or(0, |refused| refused.fault.number())
 }
 
 #[test]

@@ -1,5 +1,5 @@
 #![tactic(auto)]
-// Follows one real task from start to end and says in plain sentences what took place.
+// Follows two positions with their money, from the trade to the final settlement, in plain sentences.
 mod book_story;
 mod journal;
 mod margin_story;
