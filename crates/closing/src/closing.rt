@@ -126,6 +126,7 @@ impl<'a, T: Terms> Day<'a, T> {
         ensures { result ≡ class_closing (T.meaning self.now.terms.now) self.now.day class }
     {
         let here = self.terms.class_on(self.day, class);
+        // Where there is no next open day it is day 0, for which terms do not answer: so the definition says it.
         let next = self.next.unwrap_or(0);
         ClassClosing {
             in_use: class < self.terms.classes(),

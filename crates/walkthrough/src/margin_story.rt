@@ -23,6 +23,7 @@ pub fn tell<T: Terms>(
     println!(rt;
         "The initial margin of that lot of {name} at {price} cents, with an interval of {interval} hundredths of a percent:"
     )?;
+    // The like stands in the other walkthrough, set in otherwise: shared, it would have to be told how far.
     for step in Step::all() {
         let result = holding.step_result(price, interval, step);
         println!(rt; "  step {step:?}: {result} cents")?;
