@@ -53,7 +53,7 @@ pub fn last_trading_day<C: Calendar>(calendar: &C, expiry: u32) -> Option<u32>
     calendars::first_between(&OpenDays { calendar }, tenth, DAY_COUNT)
 }
 
-// The same as a number, beyond all days where there is none, so that every day can be compared with it: as the definition has it.
+// The same as a number, beyond all days where there is none, as the definition has it: every day can be compared with it.
 pub(crate) fn last_day<C: Calendar>(calendar: &C, expiry: u32) -> u32
     ensures is { result ≡ last_day (C.opens calendar.now) expiry }
     ensures bound { result ≤ 36525 }
