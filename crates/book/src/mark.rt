@@ -1,4 +1,5 @@
-// Mark and reprice: the prices that a caller sets.
+// Mark and reprice: the prices that a caller sets. The two are alike in shape and differ in each line, in what is asked and in
+// what is written.
 ghost use Rattle.std.specs.Prelude.{◌≡◌, ◌<◌, ◌≤◌, true, not, ◌&&◌, is_some, Ok, nat_lt, unsigned_abs};
 ghost use Rattle.book.specs.Replies.{reply};
 ghost use Rattle.ledger.specs.Calls.{price_fits, mark_refusal, reprice_refusal};
