@@ -7,7 +7,7 @@ use power::{Baseload, Power};
 use std::array;
 use std::test::Fail;
 
-type PowerBook = Book<Power<Weekdays, Baseload>>;
+pub(crate) type PowerBook = Book<Power<Weekdays, Baseload>>;
 
 fn line(class: u32) -> ClassLine {
     ClassLine {
@@ -17,18 +17,18 @@ fn line(class: u32) -> ClassLine {
 }
 
 // The lines of the eleven classes of power.
-fn lines() -> [ClassLine; 11] {
+pub(crate) fn lines() -> [ClassLine; 11] {
     array::from_fn(|class| line(class as u32))
 }
 
-fn terms() -> Power<Weekdays, Baseload> {
+pub(crate) fn terms() -> Power<Weekdays, Baseload> {
     Power {
         calendar: Weekdays,
         profile: Baseload,
     }
 }
 
-fn number<T: Drop>(answer: Result<T, Fault>) -> u8 {
+pub(crate) fn number<T: Drop>(answer: Result<T, Fault>) -> u8 {
     answer.err().map_or(0, |fault| fault.number())
 }
 
