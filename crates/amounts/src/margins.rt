@@ -30,7 +30,7 @@ fn step_cents(price: i32, interval: u16, whole: i64, step: Step) -> i128
 }
 
 impl Holding {
-    // What one step gives: the exact product, and then the one rounding.
+    // What one step gives.
     pub fn step_result(&self, price: i32, interval: u16, step: Step) -> i128
         ensures is { result ≡ step_result price interval self.now.quantity self.now.lots (factor_of step) }
         ensures floor { Brackets 50000 (step_product price interval self.now.quantity self.now.lots (factor_of step)) result }

@@ -37,8 +37,8 @@ impl Step {
         STEPS
     }
 
-    // By how many fifths of the interval the price moves. A match: as the variants' numbers a factor that stands twice would
-    // not compile, and no contract would have to refuse it.
+    // By how many fifths of the interval the price moves. A `match`: equal discriminants do not compile, and it is the
+    // contract that is to refuse two steps with one factor.
     pub fn factor(self) -> i8
         ensures { result ≡ factor_of self }
     {

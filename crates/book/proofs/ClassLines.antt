@@ -1,5 +1,5 @@
 -- The class lines of a book: line by line in make, and found by their class afterwards. Assumes nothing.
-use Rattle.std.proofs.Common.{◌≡◌, ℕ, zero, suc, ◌+◌, ◌-◌, ◌<◌, ◌≤◌, Bool, true, false, ◌&&◌, eqb, leb, List, [], ◌∷◌, ◌++◌, map, length, get_or, take, drop, replicate, Some, None, Option, sym, refl, ap, ◌∙◌, ⊎_elim, add-one, arith, length-append}
+use Rattle.std.proofs.Common.{◌≡◌, ℕ, zero, suc, ◌+◌, ◌-◌, ◌<◌, ◌≤◌, Bool, true, false, MatchBool, ◌&&◌, eqb, leb, List, [], ◌∷◌, ◌++◌, map, length, min, get_or, take, drop, replicate, Some, None, Option, sym, refl, ap, ◌∙◌, ⊎_elim, arith, length-append}
 use lib.ListN.{length-replicate}
 use Rattle.book.specs.Lines.{line_fits}
 use Rattle.book.specs.Tables.{no_line, filled}
@@ -10,8 +10,11 @@ use Rattle.ledger.proofs.Tests.{some-none}
 use Rattle.ledger.specs.Make.{lines_fit}
 use Rattle.ledger.specs.Questions.{line_interval}
 use Rattle.ledger.specs.Words.{from}
-use Rattle.std.proofs.lemmas.List.{at_drop_more, at_drop_all, drop-replicate, get_or-map, get_or-take, get_or_append_left, length-map, length-take}
-use Rattle.std.proofs.lemmas.Bool.{and_parts, cases_Bool, eqb-true, eq-eqb}
+use Rattle.std.proofs.lemmas.List.{drop-replicate, get_or-map, get_or-take, get_or_append_left, length-map, length-take}
+use Rattle.std.proofs.lemmas.Bool.{and_from, and_parts, and_right, cases_Bool, eqb-true, eq-eqb}
+use Rattle.std.proofs.lemmas.List.FromFn.{length-range_with_len, get_or-range_with_len}
+use Rattle.std.proofs.lemmas.Slice.Zip.{get_or-zip, length-zip}
+use Rattle.std.specs.List.{range_with_len, zip, AllWithin, HoldsAt}
 
 -- as many lines as classes
 pub lines-count : (k n : ℕ) (xs : List ClassLine) → lines_fit k n xs ≡ true → k + length xs ≡ n
@@ -24,23 +27,47 @@ lines-count k n (l ∷ ls) e =
 pub not-as-many : (n : ℕ) (xs : List ClassLine) → (length xs ≡ n → ⊥) → false ≡ lines_fit 0 n xs
 not-as-many n xs h = ⊎_elim (λ e. let q : length xs ≡ n = omega (arith, lines-count 0 n xs e) in absurd (h q)) sym (cases_Bool (lines_fit 0 n xs))
 
-regroup : (a b r : Bool) → (a && (b && r)) ≡ ((a && b) && r)
-regroup true b r = refl
-regroup false b r = refl
+-- the lines beside the numbers of their classes
+width : (n : ℕ) (xs : List ClassLine) → length xs ≡ n → length (zip xs (range_with_len 0 n)) ≡ n
+width n xs e = length-zip xs (range_with_len 0 n) ∙ (λ i. min (e i) (length-range_with_len 0 n i)) ∙ (omega arith)
 
-one_line : (n : ℕ) (xs : List ClassLine) (i : ℕ) → i < length xs → lines_fit i n (drop i xs) ≡ (line_fits (get_or xs i no_line) i && lines_fit (i + 1) n (drop (i + 1) xs))
-one_line n xs i h =
-    let l = get_or xs i no_line in
-    at_drop_more (lines_fit i n) xs i no_line h ∙ regroup (eqb l.class i) (leb l.interval 10000) (lines_fit (suc i) n (drop (i + 1) xs)) ∙ ap (λ k. line_fits l i && lines_fit k n (drop (i + 1) xs)) (sym (add-one i))
+at_place : (n : ℕ) (xs : List ClassLine) (i : ℕ) → length xs ≡ n → i < length xs → get_or (zip xs (range_with_len 0 n)) i (no_line, 0) ≡ (get_or xs i no_line, 0 + i)
+at_place n xs i e l =
+    get_or-zip xs (range_with_len 0 n) i (no_line, 0) l (omega (arith, e, length-range_with_len 0 n))
+    ∙ (λ j. (get_or xs i no_line, get_or-range_with_len 0 n i 0 (omega arith) j))
 
-pub line-no : (n : ℕ) (xs : List ClassLine) (i : ℕ) → i < length xs → lines_fit 0 n xs ≡ lines_fit i n (drop i xs) → line_fits (get_or xs i no_line) i ≡ false → false ≡ lines_fit 0 n xs
-line-no n xs i h e f = sym (e ∙ one_line n xs i h ∙ ap (λ b. b && lines_fit (i + 1) n (drop (i + 1) xs)) f)
+-- each line fits its class, or one does not
+all-fit : (k n : ℕ) (xs : List ClassLine) → k + length xs ≡ n → ((i : ℕ) → i < length xs → line_fits (get_or xs i no_line) (k + i) ≡ true) → lines_fit k n xs ≡ true
+all-fit k n [] e h = eq-eqb k n (omega arith)
+all-fit k n (l ∷ ls) e h =
+    let q : k + 0 ≡ k = omega arith in
+    let here = and_parts (eqb l.class k) (leb l.interval 10000) (rw q at (h 0 (omega arith))) in
+    let rest : lines_fit (suc k) n ls ≡ true = all-fit (suc k) n ls (omega arith) (λ i t. let p : suc k + i ≡ k + suc i = omega arith in rw p (h (suc i) (omega arith))) in
+    and_from _ _ here.0 (and_from _ _ here.1 rest)
 
-pub line-yes : (n : ℕ) (xs : List ClassLine) (i : ℕ) → i < length xs → lines_fit 0 n xs ≡ lines_fit i n (drop i xs) → line_fits (get_or xs i no_line) i ≡ true → lines_fit 0 n xs ≡ lines_fit (i + 1) n (drop (i + 1) xs)
-line-yes n xs i h e f = e ∙ one_line n xs i h ∙ ap (λ b. b && lines_fit (i + 1) n (drop (i + 1) xs)) f
+one-misfit : (k n i : ℕ) (xs : List ClassLine) → i < length xs → line_fits (get_or xs i no_line) (k + i) ≡ false → lines_fit k n xs ≡ false
+one-misfit k n i [] h e = absurd (omega arith)
+one-misfit k n zero (l ∷ ls) h e =
+    let q : k + 0 ≡ k = omega arith in
+    regroup (eqb l.class k) (leb l.interval 10000) (lines_fit (suc k) n ls) ∙ ap (λ b. b && lines_fit (suc k) n ls) (rw q at e)
+  where
+    regroup : (a b r : Bool) → (a && (b && r)) ≡ ((a && b) && r)
+    regroup true b r = refl
+    regroup false b r = refl
+one-misfit k n (suc i) (l ∷ ls) h e =
+    let p : suc k + i ≡ k + suc i = omega arith in
+    let rest : lines_fit (suc k) n ls ≡ false = one-misfit (suc k) n i ls (omega arith) (rw p e) in
+    and_right (eqb l.class k) _ (and_right (leb l.interval 10000) _ rest)
 
-pub lines_end : (n : ℕ) (xs : List ClassLine) (i : ℕ) → length xs ≤ i → i ≡ n → lines_fit 0 n xs ≡ lines_fit i n (drop i xs) → true ≡ lines_fit 0 n xs
-lines_end n xs i h q e = sym (e ∙ at_drop_all (lines_fit i n) xs i h ∙ eq-eqb i n q)
+-- what `all` answers over the lines beside their classes
+pub lines-asked : (n : ℕ) (xs : List ClassLine) (r : Bool) → length xs ≡ n → MatchBool r (AllWithin (λ p. line_fits p.0 p.1 ≡ true) (zip xs (range_with_len 0 n)) 0 (length (zip xs (range_with_len 0 n)))) ((i : ℕ) × (i < length (zip xs (range_with_len 0 n))) × HoldsAt (λ p. line_fits p.0 p.1 ≡ false) (zip xs (range_with_len 0 n)) i) → r ≡ lines_fit 0 n xs
+lines-asked n xs true e h =
+    sym (all-fit 0 n xs (omega arith) (λ i l.
+    let q = at_place n xs i e l in
+    ap (λ (p : ClassLine × ℕ). line_fits p.0 p.1) (sym q) ∙ h i (no_line, 0) (omega arith) (omega (arith, width n xs e))))
+lines-asked n xs false e h =
+    let l : h.0 < length xs = omega (arith, h.1, width n xs e) in
+    sym (one-misfit 0 n h.0 xs l (ap (λ (p : ClassLine × ℕ). line_fits p.0 p.1) (sym (at_place n xs h.0 e l)) ∙ h.2 (no_line, 0)))
 
 -- ---- the lines of a made book
 

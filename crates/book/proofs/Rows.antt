@@ -1,19 +1,20 @@
 -- Lists read at a place: one place set, a row filled, a row mapped. Assumes nothing.
-use Rattle.std.proofs.Common.{◌≡◌, ℕ, zero, suc, ◌+◌, ◌<◌, ◌≤◌, Bool, true, false, cond, eqb, List, [], ◌∷◌, ◌++◌, map, length, get_or, take, drop, set, replicate, ℤ, pos, ◌+ℤ◌, sym, refl, ap, ◌∙◌, subst, ⊎_elim, add-one, arith}
+use Rattle.std.proofs.Common.{◌≡◌, ℕ, zero, suc, ◌+◌, ◌<◌, ◌≤◌, Bool, true, false, MatchBool, cond, eqb, List, [], ◌∷◌, ◌++◌, map, length, get_or, take, drop, set, replicate, ℤ, pos, ◌+ℤ◌, sym, refl, ap, ◌∙◌, subst, ⊎_elim, add-one, arith}
 use Rattle.amounts.proofs.Sums.{hit, miss}
 use Rattle.amounts.specs.SumsOfWhole.{if_z}
 use Rattle.std.proofs.lemmas.List.FromFn.{get_or-map-range_with_len, length-map-range_with_len}
 use Rattle.std.proofs.lemmas.List.Edits.{fill_by_more}
 use Rattle.std.proofs.lemmas.List.{get_or-map, get_or-take, get_or_past, get_or-set_same, get_or-set_other, length-map, length-set, length-take, set-append_left, take-append-drop}
 use Rattle.std.proofs.lemmas.Bool.{cases_eq, cases_lt}
-use Rattle.std.specs.List.{range_with_len}
+use Rattle.std.specs.List.{range_with_len, AllWithin, HoldsAt}
 use Rattle.book.specs.Tables.{no_account, account_of}
 use Rattle.book.specs.InUse.{each_below, with_accounts}
 use Rattle.book.specs.declared.tables.Account.{Account}
 use Rattle.book.specs.declared.tables.Tables.{Tables}
-use Rattle.ledger.specs.Words.{at}
+use Rattle.ledger.specs.Words.{at, all_below}
 use Rattle.ledger.proofs.Sums.{plus_none}
-use Rattle.ledger.proofs.Tests.{put-here, put-there}
+use Rattle.closing.proofs.Loops.{all-pass}
+use Rattle.ledger.proofs.Tests.{all-not, put-here, put-there}
 
 pub cond_same : {A : Type 0} (b : Bool) (x : A) → cond b x x ≡ x
 cond_same true x = refl
@@ -172,3 +173,12 @@ pub each_same : (f g : ℕ → Account → Account) (xs : List Account) (n : ℕ
 unfolding each_below
 each_same f g xs zero e = refl
 each_same f g xs (suc n) e = λ i. set (each_same f g xs n (λ a h. e a (omega arith)) i) n (e n (omega arith) i)
+
+-- what `all` answers over the first n accounts
+pub all-first : (f : Account → Bool) (xs : List Account) (n : ℕ) (r : Bool) → n ≤ length xs → MatchBool r (AllWithin (λ x. f x ≡ true) (take n xs) 0 (length (take n xs))) ((i : ℕ) × (i < length (take n xs)) × HoldsAt (λ x. f x ≡ false) (take n xs) i) → r ≡ all_below n (λ a. f (get_or xs a no_account))
+all-first f xs n true h e =
+    sym (all-pass n (λ a. f (get_or xs a no_account)) (λ a l.
+    ap f (sym (get_or-take n xs a no_account l)) ∙ e a no_account (omega arith) (omega (arith, length-take n xs))))
+all-first f xs n false h e =
+    let l : e.0 < n = omega (arith, e.1, length-take n xs) in
+    sym (all-not n (λ a. f (get_or xs a no_account)) e.0 l (ap f (sym (get_or-take n xs e.0 no_account l)) ∙ e.2 no_account))

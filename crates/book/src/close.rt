@@ -38,6 +38,7 @@ fn as_row(lots: &[i64; 12]) -> [i32; 12]
     requires { (c : ℕ) → unsigned_abs (at lots.now c) ≤ 1000 }
     ensures { result ≡ lots.now }
 {
+    // By number: of `map` the check does not see that each number asked for is in range.
     array::from_fn(|class| as_lots(lots[class]))
 }
 
@@ -79,10 +80,12 @@ impl Tables {
         requires { self.now.count ≤ 32 }
         ensures { result ≡ all_below self.now.count (λ a. keeps_limit closing.now 1000 (account_of self.now a).lots) }
     {
-        (0..self.count).all(|account| self.accounts[account as usize].keeps_limit(closing))
+        self.accounts[..self.count as usize]
+            .iter()
+            .all(|account| account.keeps_limit(closing))
     }
 
-    // The questions before that of the cash.
+    // The questions before that of the cash: the first that is answered no.
     fn may_close(&self, closing: &Closing, settling: u32, room: usize) -> Result<(), Fault>
         requires { (self.now.count ≤ 32) × (settling < 12) }
         ensures { result ≡ reply (may_close closing.now self.now settling room) tt }

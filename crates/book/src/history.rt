@@ -39,7 +39,7 @@ impl<T: Terms> Book<T> {
         self.close(&mut list[..room.min(32)])
     }
 
-    // Any call. It is data, since the list call hands it on and the law speaks of it.
+    // Any call, and its answer. A call is data: `replay` is handed a list of them, and the law of the ledger speaks of it.
     pub fn call(&mut self, call: Call) -> Result<(), Fault>
         ensures answer { result ≡ reply (refusal (T.meaning self.old.terms) (view self.old.tables) call) tt }
         ensures after { self.new.tables ≡ after_tables (T.meaning self.old.terms) self.old.tables call }

@@ -30,15 +30,11 @@ fn lines_fit(classes: u32, lines: &[ClassLine]) -> bool
     ensures is { result ≡ lines_fit 0 classes lines.now }
     ensures few { result ≡ true → length lines.now ≤ 12 }
 {
-    if lines.len() != classes as usize {
-        return false;
-    }
-    for (class, line) in lines.iter().enumerate() {
-        if !line_fits(line, class as u32) {
-            return false;
-        }
-    }
-    true
+    lines.len() == classes as usize
+        && lines
+            .iter()
+            .zip(0..classes)
+            .all(|(line, class)| line_fits(line, class))
 }
 
 // The class lines, and lines that are none up to twelve.
@@ -51,7 +47,8 @@ fn filled(lines: &[ClassLine]) -> [ClassLine; 12]
     all
 }
 
-// The questions of make.
+// The questions of make: the first that is answered no. What make is told is passed on as it is told: a struct of the four
+// would be made once and taken apart twice.
 fn may_make<T: Terms>(
     terms: &T,
     month: u32,

@@ -48,7 +48,8 @@ fn margin_of(prices: &ClassPrices, interval: u16, holding: Holding) -> i128
 }
 
 impl Tables {
-    // The interval on the line of one of the terms' classes, of which there are so many.
+    // The interval on the line of a class, one of the terms' `classes`. It is searched, as every coded entry is: the book
+    // relies on no place in the buyer's lines.
     fn interval(&self, classes: u32, class: u32) -> u16
         requires { (classes ≤ 12) × (class < classes) × (Lined classes self.now) }
         ensures { result ≡ line_interval self.now.lines class }

@@ -1,4 +1,5 @@
-// Mark and reprice: the prices that a caller sets.
+// Mark and reprice: the prices that a caller sets. The two are alike in shape and differ in each line, in what is asked and in
+// what is written.
 ghost use Rattle.std.specs.Prelude.{◌≡◌, ◌<◌, ◌≤◌, true, not, ◌&&◌, is_some, Ok, nat_lt, unsigned_abs};
 ghost use Rattle.book.specs.Replies.{reply};
 ghost use Rattle.ledger.specs.Calls.{price_fits, mark_refusal, reprice_refusal};
@@ -29,6 +30,7 @@ impl<T: Terms> Book<T> {
             .is_some_and(|here| here.tradable)
     }
 
+    // The questions of a mark: the first that is answered no.
     fn may_mark(&self, class: u32, price: i32) -> Result<(), Fault>
         ensures is { result ≡ reply (mark_refusal (T.meaning self.now.terms) (view self.now.tables) class price) tt }
         ensures known { result ≡ Ok tt → class < 12 }
@@ -62,11 +64,11 @@ impl<T: Terms> Book<T> {
         ensures known { result ≡ true → class < 12 }
     {
         class < self.terms.classes()
-            && class < 12
             && !self.is_tradable(class)
             && self.tables.prices[class as usize].last.is_some()
     }
 
+    // The questions of a repricing: the first that is answered no.
     fn may_reprice(&self, class: u32, price: i32) -> Result<(), Fault>
         ensures is { result ≡ reply (reprice_refusal (T.meaning self.now.terms) (view self.now.tables) class price) tt }
         ensures known { result ≡ Ok tt → class < 12 }

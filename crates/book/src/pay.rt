@@ -58,6 +58,7 @@ impl Tables {
         requires { (self.now.count ≤ 32) × (SmallPays pays.now) }
         ensures { result ≡ payable self.now (at pays.now) }
     {
+        // By number: two tables are read at one account.
         (0..self.count as usize).all(|account| self.accounts[account].may_receive(pays[account]))
     }
 

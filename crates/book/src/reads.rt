@@ -6,18 +6,8 @@ ghost use Rattle.ledger.specs.Questions.{holding_refusal, holding as holding_of,
 ghost use Rattle.book.specs.Tables.{prices_of, view};
 
 use crate::book::Book;
-use crate::tables::Tables;
 use ledger::Fault;
 use terms::Terms;
-
-impl Tables {
-    fn last_price(&self, class: u32) -> Option<i32>
-        requires { class < 12 }
-        ensures { result ≡ (prices_of self.now class).last }
-    {
-        self.prices[class as usize].last
-    }
-}
 
 impl<T: Terms> Book<T> {
     pub(crate) fn known(&self, account: u32) -> bool
@@ -33,14 +23,14 @@ impl<T: Terms> Book<T> {
         &self.terms
     }
 
-    // The last price of a class; a class that is none has none.
+    // The last price of a class, by number; a number that is no class has none.
     pub fn last_price(&self, class: u32) -> Option<i32>
         ensures { result ≡ (view self.now.tables).last class }
     {
-        if class >= 12 {
-            return None;
-        }
-        self.tables.last_price(class)
+        self.tables
+            .prices
+            .get(class as usize)
+            .and_then(|prices| prices.last)
     }
 
     // The day of the book.

@@ -43,6 +43,8 @@ impl Account {
 }
 
 impl Tables {
+    // What each account is paid, as `close_pays` of a close: one method over a closure would ask in clauses of the closure
+    // what these two say of a figure.
     fn final_pays(&self, class: u32, quantity: u32, price: i32, last: i32) -> [i128; 32]
         requires { (class < 12) × (self.now.count ≤ 32) }
         ensures each { (a : ℕ) → a < self.now.count → at result a ≡ final_payment quantity (at (account_of self.now a).lots class) price last }
@@ -78,7 +80,7 @@ impl<T: Terms> Book<T> {
         self.terms.settling()
     }
 
-    // The questions before that of the cash.
+    // The questions before that of the cash: the first that is answered no.
     fn may_settle(&self, price: i32, room: usize) -> Result<(), Fault>
         ensures { result ≡ reply (may_settle (T.meaning self.now.terms) (view self.now.tables) price room) tt }
     {

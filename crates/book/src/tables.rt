@@ -7,7 +7,8 @@ use ledger::ClassPrices;
 // How many lots an account may hold in a class, long or short.
 const LIMIT: u16 = 1000;
 
-// One account. By class: its lots now, and the day's trades in lots and at cost (lots × price), a buy counting positive.
+// One account, in rows, as the definitions read it. By class: its lots now, and the day's trades in lots and at cost (lots ×
+// price), a buy counting positive.
 #[derive(Clone, Copy, PartialEq, Eq, Debug)]
 pub struct Account {
     pub lots: [i32; 12],
@@ -26,7 +27,8 @@ impl Account {
 }
 
 // A book's tables: 32 accounts, of which `count` are in use, and 12 classes, of which the terms' are in use. The memory is
-// fixed, so that no call is refused for want of it.
+// fixed, so that no call is refused for want of it. They are a plain record, which the definitions make too: so the methods ask
+// for what they need (`count ≤ 32`, numbers in the tables, payments that fit), and the book's type carries it.
 #[derive(Clone, Copy)]
 pub struct Tables {
     pub day: u32,

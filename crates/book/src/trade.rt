@@ -39,6 +39,7 @@ fn cost_of(lots: i32, price: i32) -> i64
     i64::from(lots) * i64::from(price)
 }
 
+// Sums, each a function of its own: there the check shows that it fits, once for both accounts.
 fn sum(lots: i32, more: i32) -> i64
     ensures { result ≡ lots +ℤ more }
 {
@@ -104,9 +105,9 @@ impl Tables {
     }
 }
 
-// Five numbers go together below and no struct holds them: the call of the law (`Call::Trade`) is that struct already, with
-// the same five fields, and a method of the book is told them one by one.
+// The five numbers of a trade are told one by one: a struct of them would be made once here and taken apart twice.
 impl<T: Terms> Book<T> {
+    // The questions of a trade: the first that is answered no.
     fn may_trade(
         &self,
         buyer: u32,

@@ -1,4 +1,6 @@
 #![tactic(auto)]
 // Examples for the calls of the book.
 #[cfg(test)]
+mod days;
+#[cfg(test)]
 mod tests;

@@ -7,7 +7,7 @@ use power::{Baseload, Power};
 use std::array;
 use std::test::Fail;
 
-type PowerBook = Book<Power<Weekdays, Baseload>>;
+pub(crate) type PowerBook = Book<Power<Weekdays, Baseload>>;
 
 fn line(class: u32) -> ClassLine {
     ClassLine {
@@ -17,29 +17,25 @@ fn line(class: u32) -> ClassLine {
 }
 
 // The lines of the eleven classes of power.
-fn lines() -> [ClassLine; 11] {
+pub(crate) fn lines() -> [ClassLine; 11] {
     array::from_fn(|class| line(class as u32))
 }
 
-fn terms() -> Power<Weekdays, Baseload> {
+pub(crate) fn terms() -> Power<Weekdays, Baseload> {
     Power {
         calendar: Weekdays,
         profile: Baseload,
     }
 }
 
-fn number<T: Drop>(answer: Result<T, Fault>) -> u8 {
-    match answer {
-        Ok(_) => 0,
-        Err(fault) => fault.number(),
-    }
+pub(crate) fn number<T: Drop>(answer: Result<T, Fault>) -> u8 {
+    answer.err().map_or(0, |fault| fault.number())
 }
 
 fn make_number(month: u32, accounts: u32, lines: &[ClassLine]) -> u8 {
-    match PowerBook::make(terms(), month, accounts, lines) {
-        Ok(_) => 0,
-        Err(refused) => refused.fault.number(),
-    }
+    PowerBook::make(terms(), month, accounts, lines)
+        .err()
+        .map_or(0, |refused| refused.fault.number())
 }
 
 #[test]

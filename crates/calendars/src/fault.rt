@@ -16,7 +16,8 @@ impl ListFault {
     pub fn number(self) -> u8
         ensures { result ≡ list_number self }
     {
-        // A match: discriminants differ by themselves, and here the contract is what keeps the numbers apart.
+        // A `match`: equal discriminants do not compile, and it is the contract that is to refuse two questions with one
+        // number.
         match self {
             ListFault::TooMany => 4,
             ListFault::Unordered => 5,

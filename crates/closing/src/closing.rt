@@ -10,7 +10,8 @@ ghost use Rattle.terms.specs.Meaning.{any_below, tradable, has_some_part, succes
 use std::array;
 use terms::{ClassTerms, Terms, TermsOpenDays, quantity_of};
 
-// One class: whether the terms have it, whether it is tradable, the quantity of one lot, its parts (by class number), the
+// One class: whether the terms have it (no flag for what follows: on a day for which terms do not answer, a class that they
+// have has none of it), whether it is tradable, the quantity of one lot, its parts (by class number), the
 // class that it succeeds on the next open day, and whether it is tradable then.
 #[derive(Clone, Copy)]
 pub struct ClassClosing {
@@ -24,7 +25,7 @@ pub struct ClassClosing {
 }
 
 // All classes; whether another class succeeds to the settling class; the next open day. Methods take a class by its number
-// in the table, below 12: a type for such numbers would have to be made at every loop and call, and says no more.
+// in the table, below 12, and say so: a type for such numbers would have to be made at every loop and call.
 #[derive(Clone, Copy)]
 pub struct Closing {
     pub classes: [ClassClosing; 12],
@@ -32,7 +33,7 @@ pub struct Closing {
     pub next: Option<u32>,
 }
 
-// What the terms do not have is not tradable, has no part and hands over to none.
+// What the terms do not have is not tradable and has no part.
 fn is_tradable(class: Option<ClassTerms>) -> bool
     ensures { result ≡ tradable class }
 {
@@ -42,7 +43,7 @@ fn is_tradable(class: Option<ClassTerms>) -> bool
 fn parts_of(class: Option<ClassTerms>) -> [bool; 12]
     ensures { result ≡ parts_of class }
 {
-    // A `match`: of `map_or` with a row as its default the check finds no proof.
+    // A `match`: with `map_or`, and with `map` and `unwrap_or`, the check finds no proof where the default is a row.
     match class {
         Some(class) => class.parts,
         None => [false; 12],
@@ -53,12 +54,6 @@ fn has_parts(class: Option<ClassTerms>) -> bool
     ensures { result ≡ has_some_part class }
 {
     class.is_some_and(|class| class.has_parts())
-}
-
-fn successor_of(class: Option<ClassTerms>) -> Option<u32>
-    ensures { result ≡ successor class }
-{
-    class.and_then(|class| class.successor)
 }
 
 // A day of terms: the next open day, and the class to which each class hands over.
@@ -72,6 +67,7 @@ struct Day<'a, T: Terms> {
     ghost handed: { successors ≡ successors_on (T.meaning terms.now) day },
 }
 
+// The word of the laws for an answer that is a class.
 fn is_named(answer: Option<u32>, class: u32) -> bool
     ensures { result ≡ names answer class }
 {
@@ -82,7 +78,11 @@ fn is_named(answer: Option<u32>, class: u32) -> bool
 fn successors<T: Terms>(terms: &T, day: u32) -> [Option<u32>; 12]
     ensures { result ≡ successors_on (T.meaning terms.now) day }
 {
-    array::from_fn(|class| successor_of(terms.class_on(day, class as u32)))
+    array::from_fn(|class| {
+        terms
+            .class_on(day, class as u32)
+            .and_then(|here| here.successor)
+    })
 }
 
 impl<'a, T: Terms> Day<'a, T> {
@@ -106,7 +106,7 @@ impl<'a, T: Terms> Day<'a, T> {
         is_named(self.successors[class as usize], to)
     }
 
-    // The class to which a class is the successor.
+    // The class that hands over to a class.
     fn source_of(&self, class: u32) -> Option<u32>
         ensures { result ≡ source_below (λ e. successor ((T.meaning self.now.terms.now).on self.now.day e)) class (T.meaning self.now.terms.now).classes }
     {
@@ -126,6 +126,7 @@ impl<'a, T: Terms> Day<'a, T> {
         ensures { result ≡ class_closing (T.meaning self.now.terms.now) self.now.day class }
     {
         let here = self.terms.class_on(self.day, class);
+        // Where there is no next open day it is day 0, for which terms do not answer: so the definition says it.
         let next = self.next.unwrap_or(0);
         ClassClosing {
             in_use: class < self.terms.classes(),

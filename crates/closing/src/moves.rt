@@ -22,6 +22,7 @@ impl Closing {
     pub fn all_priced(&self, prices: &[ClassPrices; 12]) -> bool
         ensures { result ≡ all_priced self.now prices.now }
     {
+        // By number: two tables are read at one class.
         (0..12).all(|class| self.is_priced(prices, class))
     }
 
@@ -78,7 +79,7 @@ impl Closing {
         (0..12).all(|class| self.class_keeps(limit, lots, class))
     }
 
-    // The same for each class.
+    // Its lots in each class.
     fn after_parts_lots(&self, lots: &[i32; 12]) -> [i64; 12]
         ensures { result ≡ after_parts_lots self.now lots.now }
     {
@@ -93,13 +94,6 @@ fn row_at(row: &[i64; 12], class: u32) -> i64
     row.get(class as usize).copied().unwrap_or(0)
 }
 
-// What stands at a class that may be none.
-fn row_from(row: &[i64; 12], source: Option<u32>) -> i64
-    ensures { result ≡ from source (pos 0) (at row.now) }
-{
-    source.map_or(0, |class| row_at(row, class))
-}
-
 // The repricing of a class, and none past the table.
 fn repriced_at(prices: &[ClassPrices; 12], class: u32) -> Option<i32>
     ensures { result ≡ (prices_at prices.now class).repriced }
@@ -107,13 +101,6 @@ fn repriced_at(prices: &[ClassPrices; 12], class: u32) -> Option<i32>
     prices
         .get(class as usize)
         .and_then(|prices| prices.repriced)
-}
-
-// The repricing of a class that may be none.
-fn repriced_from(prices: &[ClassPrices; 12], source: Option<u32>) -> Option<i32>
-    ensures { result ≡ from source None (λ c. (prices_at prices.now c).repriced) }
-{
-    source.and_then(|class| repriced_at(prices, class))
 }
 
 impl Closing {
@@ -128,19 +115,14 @@ impl Closing {
         }
     }
 
-    // The newest price of a class that may be none.
-    fn newest_from(&self, prices: &[ClassPrices; 12], source: Option<u32>) -> Option<i32>
-        ensures { result ≡ from source None (newest_by self.now prices.now) }
-    {
-        source.and_then(|class| self.newest_at(prices, class))
-    }
-
     // The lots of a class on the next open day; `after` are the lots after the parts.
     fn moved(&self, after: &[i64; 12], class: usize) -> i64
         requires { class < 12 }
         ensures { result ≡ moved_by self.now after.now class }
     {
-        row_from(after, self.classes[class].source)
+        self.classes[class]
+            .source
+            .map_or(0, |source| row_at(after, source))
     }
 
     // An account's lots on the next open day: each class has those of the class that it succeeds.
@@ -160,10 +142,12 @@ impl Closing {
         let repriced = if here.tradable_next {
             None
         } else {
-            repriced_from(prices, here.source)
+            here.source.and_then(|source| repriced_at(prices, source))
         };
         ClassPrices {
-            last: self.newest_from(prices, here.source),
+            last: here
+                .source
+                .and_then(|source| self.newest_at(prices, source)),
             today: None,
             repriced,
         }

@@ -16,14 +16,14 @@ pub struct Rows<'a> {
     pub cost: &'a [i64; 12],
 }
 
-// A missing price counts as 0.
+// A missing price counts as 0. A function of its own: written out where it is used, four times, the check finds no proof.
 fn or_zero(price: Option<i32>) -> i32
     ensures { result ≡ or_zero price }
 {
     price.unwrap_or(0)
 }
 
-// The price table is a parameter and no part of `Closing`: the book writes it while it still has the `Closing`.
+// The price table is a parameter and no part of `Closing`, which is worked out of the terms alone.
 impl Closing {
     // The last price of a class once the day's prices have become the last ones.
     pub(crate) fn newest(&self, prices: &[ClassPrices; 12], class: usize) -> Option<i32>

@@ -40,17 +40,20 @@ pub fn is_weekday(day: u32) -> bool
     day % 7 >= 2
 }
 
-fn name(weekday: Weekday) -> &'static str
-    ensures { result.now ≡ weekday_name weekday }
-{
-    match weekday {
-        Weekday::Saturday => "Saturday",
-        Weekday::Sunday => "Sunday",
-        Weekday::Monday => "Monday",
-        Weekday::Tuesday => "Tuesday",
-        Weekday::Wednesday => "Wednesday",
-        Weekday::Thursday => "Thursday",
-        Weekday::Friday => "Friday",
+impl Weekday {
+    // A `match`: of the name that a derive prints no clause knows the bytes.
+    fn name(self) -> &'static str
+        ensures { result.now ≡ weekday_name self }
+    {
+        match self {
+            Weekday::Saturday => "Saturday",
+            Weekday::Sunday => "Sunday",
+            Weekday::Monday => "Monday",
+            Weekday::Tuesday => "Tuesday",
+            Weekday::Wednesday => "Wednesday",
+            Weekday::Thursday => "Thursday",
+            Weekday::Friday => "Friday",
+        }
     }
 }
 
@@ -58,6 +61,6 @@ impl fmt::Display for Weekday {
     ghost output = { λ w. Some (weekday_name w) };
 
     fn fmt<W: fmt::Write>(&self, f: &mut fmt::Formatter<W>) -> fmt::Result {
-        f.write_str(name(*self))
+        f.write_str(self.name())
     }
 }

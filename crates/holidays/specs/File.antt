@@ -1,5 +1,5 @@
 -- A file of closed days: the day of a line, and the days of a text. Assumes nothing.
-use Rattle.std.specs.Prelude.{◌≡◌, ℕ, ◌+◌, cond, ◌&&◌, List, [], ◌∷◌, length, take, drop, Some, None, Ok, Err, Option, Result, ◌==◌, slice_index}
+use Rattle.std.specs.Prelude.{◌≡◌, ℕ, ◌+◌, cond, ◌&&◌, List, [], ◌∷◌, ◌++◌, length, take, drop, Some, None, Ok, Err, Option, Result, codes, decimal, ◌==◌, slice_index}
 use Rattle.dates.specs.Written.{day_of}
 use Rattle.text.specs.Lines.{lines}
 use Rattle.text.specs.Numbers.{digits_value}
@@ -39,3 +39,9 @@ days_read text = days_from 1 (lines text)
 abbrev pub Refuses : List ℕ → ReadFault → Type 0
 Refuses text (NotADate n) = days_read text ≡ Err n
 Refuses text NoMemory = Unit {0}
+
+-- a refusal in words
+abbrev pub fault_text : ReadFault → List ℕ
+fault_text (NotADate n) =
+    codes "line " ++ (decimal n ++ codes " is no date of the form YYYY-MM-DD from 2000 to 2099")
+fault_text NoMemory = codes "no memory for the closed days"

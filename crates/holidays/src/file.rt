@@ -1,14 +1,15 @@
 // A file of closed days: each line is one date, as 2008-03-26.
-ghost use Rattle.std.specs.Prelude.{◌≡◌, Ok, MatchResult};
+ghost use Rattle.std.specs.Prelude.{◌≡◌, Ok, Some, MatchResult};
 ghost use Rattle.std.specs.Option.{ok_or};
 ghost use Rattle.holidays.specs.declared.file.ReadFault.TheVariants.{NotADate, NoMemory};
-ghost use Rattle.holidays.specs.File.{iso_day, days_read, Refuses};
+ghost use Rattle.holidays.specs.File.{iso_day, days_read, fault_text, Refuses};
 
 use dates::{Date, day_of};
 use std::alloc::{AllocError, AllocFailed, Global};
+use std::fmt;
 use text::{Reader, digits};
 
-#[derive(Clone, Copy, PartialEq, Debug)]
+#[derive(Clone, Copy, PartialEq, Eq, Debug)]
 pub enum ReadFault {
     // The line with this number, counted from 1, is no date.
     NotADate { line: usize },
@@ -28,6 +29,20 @@ impl<T: Drop> From<AllocFailed<T>> for ReadFault {
 
     fn from(_e: AllocFailed<T>) -> ReadFault {
         ReadFault::NoMemory
+    }
+}
+
+impl fmt::Display for ReadFault {
+    ghost output = { λ f. Some (fault_text f) };
+
+    fn fmt<W: fmt::Write>(&self, f: &mut fmt::Formatter<W>) -> fmt::Result {
+        match self {
+            ReadFault::NotADate { line } => write!(
+                f,
+                "line {line} is no date of the form YYYY-MM-DD from 2000 to 2099"
+            ),
+            ReadFault::NoMemory => f.write_str("no memory for the closed days"),
+        }
     }
 }
 

@@ -28,8 +28,8 @@ pub enum Fault {
 }
 
 impl Fault {
-    // The number of the question. A `match` and no discriminants: two questions with one number could not be written with
-    // those, and the check is to show that it refuses them.
+    // The number of the question. A `match`: equal discriminants do not compile, and it is the contract that is to refuse
+    // two questions with one number.
     pub fn number(self) -> u8
         ensures { result ≡ fault_number self }
     {

@@ -1,5 +1,5 @@
 #![tactic(auto)]
-// The definitions of the book, and the law of the ledger on them.
+// The definitions of the calls of a book, and the law of the ledger on them.
 mod call;
 mod entry;
 mod fault;

@@ -7,5 +7,6 @@ pub fn is_within_limit(limit: u16, lots: i64) -> bool
     ensures is { result ≡ within (neg_ℤ (pos limit)) (pos limit) lots }
     ensures size { result ≡ true → unsigned_abs lots ≤ limit }
 {
-    -i64::from(limit) <= lots && lots <= i64::from(limit)
+    let limit = i64::from(limit);
+    (-limit..=limit).contains(&lots)
 }

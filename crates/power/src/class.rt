@@ -58,12 +58,12 @@ pub(crate) fn class_at(day: DayInMonth, second_year: bool, class: u32) -> ClassT
     requires { class < 11 }
     ensures { result ≡ class_by day.month day.left second_year class }
 {
-    let row = row(class);
-    let count = row.period.months();
-    let turning = turns(row.period, day);
+    let class_row = row(class);
+    let count = class_row.period.months();
+    let turning = turns(class_row.period, day);
     ClassTerms {
         months: Months {
-            first: count * (own(row.period, day) + row.place - 1),
+            first: count * (own(class_row.period, day) + class_row.place - 1),
             count,
         },
         tradable: if class == Y02 {
@@ -77,6 +77,10 @@ pub(crate) fn class_at(day: DayInMonth, second_year: bool, class: u32) -> ClassT
             class
         },
         parts: parts(class, turning),
-        successor: if turning { row.earlier } else { Some(class) },
+        successor: if turning {
+            class_row.earlier
+        } else {
+            Some(class)
+        },
     }
 }

@@ -8,7 +8,8 @@ use terms::{ClassRow, Period};
 
 pub(crate) const CLASSES: u32 = 11;
 
-// The classes that others are told by, by number.
+// The classes that the code names, by number. They are numbers and no enum, as in the interface of terms: a product brings
+// its own.
 pub(crate) const M01: u32 = 0;
 
 const M02: u32 = 1;
@@ -29,7 +30,7 @@ pub(crate) const D01: u32 = 9;
 pub(crate) const D02: u32 = 10;
 
 // The classes, by number. Their places are among the periods of their length, counted from the period before the day's
-// own, and each hands over to the class one place before.
+// own, and each hands over to the class one place before, if it has one.
 const ROWS: [ClassRow; 11] = [
     ClassRow {
         name: "M01",

@@ -5,6 +5,7 @@ ghost use Rattle.calendars.specs.declared.fault.ListFault.{ListFault};
 
 use crate::year;
 use calendars::ListCalendar;
+use holidays::ReadFault;
 use std::env::{self, Env};
 use std::fs::{self, Files};
 use std::io;
@@ -23,25 +24,23 @@ pub fn closed_days(rt: &(impl Print + Env + Files + AllocGlobal)) -> io::Result<
     println!(rt; "The buyer loads his closed days from {path}.")?;
     match holidays::read_days(heap, bytes.as_slice()) {
         Ok(days) => Ok(Some(days)),
-        Err(holidays::ReadFault::NotADate { line }) => {
-            println!(rt;
-                "It is refused: line {line} is no date of the form YYYY-MM-DD from 2000 to 2099."
-            )?;
+        Err(fault @ ReadFault::NotADate { .. }) => {
+            println!(rt; "It is refused: {fault}.")?;
             Ok(None)
         }
-        Err(holidays::ReadFault::NoMemory) => Err(io::Error::new(
-            io::ErrorKind::OutOfMemory,
-            "no memory for the closed days",
-        )),
+        Err(fault @ ReadFault::NoMemory) => {
+            let reason = format!(in heap; "{fault}")?;
+            Err(io::Error::new(io::ErrorKind::OutOfMemory, reason.as_str()))
+        }
     }
 }
 
-// Says whether the closed days make a calendar, and what it does to the year that begins with a month. None where they
-// make none.
+// Says whether the closed days make a calendar, and what it does to the year that begins in `january`, which is given by
+// the month's number. None where they make none.
 pub fn tell_list(
     rt: &(impl Print + AllocGlobal),
     closed: Vec<u32>,
-    year: u32,
+    january: u32,
 ) -> io::Result<Option<ListCalendar>>
     ensures { IfOk result (λ o. MatchOption o ((f : ListFault) × Refused closed.items f) (λ c. (c.closed ≡ closed) × Accepted closed.items)) }
 {
@@ -49,7 +48,7 @@ pub fn tell_list(
     match ListCalendar::new(closed) {
         Ok(calendar) => {
             println!(rt; "The list of {count} closed days is accepted.")?;
-            year::tell(rt, &calendar, year)?;
+            year::tell(rt, &calendar, january)?;
             Ok(Some(calendar))
         }
         Err(refused) => {

@@ -1,4 +1,4 @@
-// What is told of: its class names and its unit.
+// The products that a story tells of: their class names and their unit.
 ghost use Rattle.std.specs.Prelude.{◌≡◌, codes, unwrap_or};
 ghost use Rattle.telling.specs.Products.{class_name, unit};
 

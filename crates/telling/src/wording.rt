@@ -3,6 +3,7 @@ ghost use Rattle.std.specs.Prelude.{◌≡◌, IfOk, string_bytes};
 ghost use Rattle.telling.specs.Wording.{day_text, month_text, months_text};
 
 use std::alloc::{AllocError, Global};
+use terms::Months;
 
 // A day, as in Wednesday 26 March 2008.
 pub fn day_text(heap: Global, day: u32) -> Result<String, AllocError>
@@ -36,9 +37,10 @@ pub(crate) fn month_text(heap: Global, month: u32) -> Result<String, AllocError>
 }
 
 // One month, or the first and the last of several.
-pub fn months_text(heap: Global, first: u32, count: u32) -> Result<String, AllocError>
-    ensures { IfOk result (λ s. string_bytes s ≡ months_text first count) }
+pub fn months_text(heap: Global, months: Months) -> Result<String, AllocError>
+    ensures { IfOk result (λ s. string_bytes s ≡ months_text months.first months.count) }
 {
+    let Months { first, count } = months;
     let from = month_text(heap, first)?;
     if count <= 1 {
         return Ok(from);

@@ -56,19 +56,19 @@ fn tell_quarter<C: Calendar>(
     println!(rt; "    The fourth last is {fourth}; on the weekday calendar it is {other}.")
 }
 
-// The open days of the year that begins with a month.
+// The open days of the year that begins in `january`.
 pub(crate) fn tell<C: Calendar>(
     rt: &(impl Print + AllocGlobal),
     calendar: &C,
-    year: u32,
+    january: u32,
 ) -> io::Result<()> {
     println!(rt; "Open days after the ninth of each month:")?;
-    for i in 0..12 {
-        tell_month(rt, calendar, year.saturating_add(i))?;
+    for month in (0..12).map(|i| january.saturating_add(i)) {
+        tell_month(rt, calendar, month)?;
     }
     println!(rt; "The last four open days of each quarter:")?;
-    for i in 0..4 {
-        tell_quarter(rt, calendar, year.saturating_add(3 * i + 2))?;
+    for last_month in (0..4).map(|i| january.saturating_add(3 * i + 2)) {
+        tell_quarter(rt, calendar, last_month)?;
     }
     Ok(())
 }

@@ -1,5 +1,6 @@
 use std::test::Fail;
 use telling::{day_text, first_month, months_text};
+use terms::Months;
 
 #[test]
 fn days(rt: HostRuntime) -> Result<(), Fail> {
@@ -13,9 +14,17 @@ fn days(rt: HostRuntime) -> Result<(), Fail> {
 
 #[test]
 fn months(rt: HostRuntime) -> Result<(), Fail> {
-    assert_eq!(rt; months_text(rt.alloc(), 98, 1)?.as_str(), "March 2008");
+    let march = Months {
+        first: 98,
+        count: 1,
+    };
+    let second_quarter = Months {
+        first: 99,
+        count: 3,
+    };
+    assert_eq!(rt; months_text(rt.alloc(), march)?.as_str(), "March 2008");
     assert_eq!(rt;
-        months_text(rt.alloc(), 99, 3)?.as_str(),
+        months_text(rt.alloc(), second_quarter)?.as_str(),
         "April 2008 to June 2008"
     );
     Ok(())

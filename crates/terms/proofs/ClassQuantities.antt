@@ -1,5 +1,7 @@
 -- The quantity of a class, of its parts and of its successor. Assumes nothing.
-use Rattle.std.proofs.Common.{◌≡◌, ℕ, zero, suc, ◌+◌, ◌-◌, ◌*◌, ◌<◌, ◌≤◌, Bool, true, false, cond, ◌&&◌, eqb, ltb, leb, Some, None, unwrap_or, sym, ap, ◌∙◌, mul-zero, mul-one, arith}
+use Rattle.std.proofs.Common.{◌≡◌, ℕ, zero, suc, ◌+◌, ◌*◌, ◌<◌, ◌≤◌, Bool, true, false, cond, ◌&&◌, eqb, ltb, leb, Some, None, unwrap_or, sym, refl, ap, ◌∙◌, mul-zero, mul-one, add-zero, arith}
+use Rattle.std.specs.List.{sum_by, range_with_len}
+use Rattle.std.proofs.lemmas.List.Sums.{sum_by-cons}
 use Rattle.std.proofs.lemmas.Bool.{lt-ltb}
 use Rattle.std.proofs.lemmas.Bool.Decides.{nat_tests}
 use Rattle.dates.specs.Dates.{when}
@@ -7,7 +9,7 @@ use Rattle.terms.specs.Meaning.{Meaning, sum_below, one, in_months, has, is_part
 use Rattle.terms.specs.Laws.{Laws}
 use Rattle.terms.specs.Quantities.{PartsAndSuccessors}
 use Rattle.terms.specs.declared.class_terms.ClassTerms.{ClassTerms}
-use Rattle.terms.proofs.Sums.{sum_more, sum-ext, sum-add, sum-scale, sum-none, sum-swap, sum-if, sum-at}
+use Rattle.terms.proofs.Sums.{sum-first, sum-ext, sum-add, sum-scale, sum-none, sum-swap, sum-if, sum-at}
 
 -- one month more in a run
 one_more : (a n m x : ℕ) → cond (leb a m && ltb m (a + suc n)) x 0 ≡ cond (leb a m && ltb m (a + n)) x 0 + cond (eqb m (a + n)) x 0
@@ -55,13 +57,19 @@ pub no-quantity : (w : Meaning) → class_quantity w None ≡ 0
 unfolding class_quantity
 no-quantity w = sum-none 1200
 
--- the sum over a run, one month further
-pub sum-next : (q : ℕ → ℕ) (a m : ℕ) → a ≤ m → sum_below (m + 1 - a) (λ i. q (a + i)) ≡ sum_below (m - a) (λ i. q (a + i)) + q m
-sum-next q a m h =
-    let next : m + 1 - a ≡ m - a + 1 = omega arith in
-    let here : a + (m - a) ≡ m = omega arith in
-    rw next (sum_more (m - a) (λ i. q (a + i)) ∙ ap (λ n. sum_below (m - a) (λ i. q (a + i)) + q n) here)
-
 -- a month's quantity, as terms answer it
-pub month-read : (q : ℕ → ℕ) (m : ℕ) → m < 1200 → unwrap_or (when (ltb m 1200) (q m)) 0 ≡ q m
-month-read q m h = rw (lt-ltb m 1200 h)
+abbrev pub told : (ℕ → ℕ) → ℕ → ℕ
+told q m = unwrap_or (when (ltb m 1200) (q m)) 0
+
+told-is : (q : ℕ → ℕ) (m : ℕ) → m < 1200 → told q m ≡ q m
+told-is q m h = rw (lt-ltb m 1200 h)
+
+-- the sum over a run, as a chain over its months takes it
+pub told-sum : (q : ℕ → ℕ) (n a : ℕ) → a + n ≤ 1200 → sum_by (told q) (range_with_len a n) ≡ sum_below n (λ i. q (a + i))
+told-sum q zero a h = refl
+told-sum q (suc n) a h =
+    omega (arith, sum_by-cons (told q) a (range_with_len (a + 1) n), told-is q a (omega arith), told-sum q n (a + 1) (omega arith), sum-first n (λ i. q (a + i)), sum-ext n (λ i. q (a + 1 + i)) (λ i. q (a + suc i)) (λ k l. ap q (omega arith)), ap q (add-zero a))
+
+pub run-most : (q : ℕ → ℕ) (n a : ℕ) → a + n ≤ 1200 → ((m : ℕ) → m < 1200 → q m ≤ 745) → sum_below n (λ i. q (a + i)) ≤ 745 * n
+run-most q zero a h most = omega arith
+run-most q (suc n) a h most = omega (arith, run-most q n a (omega arith) most, most (a + n) (omega arith))

@@ -19,7 +19,7 @@ pub fn answers_for<C: Calendar>(calendar: &C, classes: u32, day: u32, class: u32
     (FIRST_DAY..END).contains(&day) && calendar.is_open(day) && class < classes
 }
 
-// A day in its month: the month, which is one of 2001 to 2096, and how many open days are left in it after the day.
+// The month of a day, which is one of 2001 to 2096, and how many open days are left in it after the day.
 #[derive(Clone, Copy, PartialEq, Eq, Debug)]
 pub struct DayInMonth {
     pub month: u32,
@@ -27,7 +27,8 @@ pub struct DayInMonth {
     ghost in_range: { (12 ≤ month) × (month < 1164) },
 }
 
-// A day in its month, where terms over a calendar, with so many classes, answer for a class on it.
+// The month of a day and the open days left in it, if terms over a calendar, with so many classes, answer for the class on
+// that day.
 pub fn answered_day<C: Calendar>(
     calendar: &C,
     classes: u32,

@@ -1,4 +1,4 @@
-// The table of a product's classes.
+// One row of a product's table of classes.
 ghost use Rattle.std.specs.Prelude.{◌≡◌};
 ghost use Rattle.std.specs.List.{slice_get};
 ghost use Rattle.std.specs.Option.{option_map};
@@ -24,7 +24,8 @@ impl Period {
     }
 }
 
-// What a table tells of a class: its name, its period, its place in its chain, and the class one place before.
+// What a table tells of a class: its name, its period, its place in its chain, and the class one place before. A chain is
+// the classes of one period length that hand over to one another.
 #[derive(Clone, Copy, PartialEq, Eq, Debug)]
 pub struct ClassRow {
     pub name: &'static str,

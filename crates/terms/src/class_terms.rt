@@ -30,7 +30,7 @@ pub struct ClassTerms {
 }
 
 impl ClassTerms {
-    // Whether the class with a number is a part of this one.
+    // Whether a class, by number, is a part of this one.
     pub fn is_part(&self, part: u32) -> bool
         ensures { result ≡ is_part (Some self.now) part }
     {

@@ -17,9 +17,7 @@ pub fn quantity_of<T: Terms>(terms: &T, day: u32, class: u32) -> u32
         return 0;
     };
     let Months { first, count } = class.months;
-    let mut sum = 0;
-    for month in first..first + count {
-        sum += terms.month_quantity(month).unwrap_or(0);
-    }
-    sum
+    (first..first + count)
+        .map(|month| terms.month_quantity(month).unwrap_or(0))
+        .sum()
 }

@@ -1,4 +1,6 @@
 // One contract through its classes, until each of its months has reached the settling class.
+// The runtime, the product and its terms are passed on together: a struct of three borrows would say no more than their
+// names.
 use std::array;
 use telling::{Product, day_text, longest_class, months_text};
 use terms::{Months, Terms, TermsOpenDays};
@@ -11,9 +13,10 @@ pub struct Contract {
     pub months: Months,
 }
 
-// The classes of a month before a day's close and after it.
+// A month, and its classes before a day's close and after it.
 #[derive(Clone, Copy, PartialEq, Eq, Debug)]
 struct Handover {
+    month: u32,
     from: u32,
     to: u32,
 }
@@ -21,19 +24,24 @@ struct Handover {
 // What the close of a day does to the twelve months from `first` on.
 fn handovers<T: Terms>(terms: &T, day: u32, first: u32, holders: &[u32; 12]) -> [Handover; 12] {
     array::from_fn(|i| {
-        let from = holders[i];
-        if from == terms.settling() {
-            return Handover { from, to: from };
-        }
         let month = first.saturating_add(i as u32);
-        let to = terms::heir(terms, day, from, month).unwrap_or(from);
-        Handover { from, to }
+        let from = holders[i];
+        let to = if from == terms.settling() {
+            from
+        } else {
+            terms::heir(terms, day, from, month).unwrap_or(from)
+        };
+        Handover { month, from, to }
     })
 }
 
-fn quantity<T: Terms>(terms: &T, first: u32, count: u32) -> u32 {
-    (0..count)
-        .map(|i| terms.month_quantity(first.saturating_add(i)).unwrap_or(0))
+fn quantity<T: Terms>(terms: &T, months: Months) -> u32 {
+    (0..months.count)
+        .map(|i| {
+            terms
+                .month_quantity(months.first.saturating_add(i))
+                .unwrap_or(0)
+        })
         .fold(0, |sum: u32, amount| sum.saturating_add(amount))
 }
 
@@ -42,21 +50,22 @@ fn tell_changes<T: Terms>(
     rt: &HostRuntime,
     product: Product,
     terms: &T,
-    first: u32,
     handovers: &[Handover],
 ) -> anyhow::Result<()> {
-    let mut month = first;
-    for run in handovers.chunk_by(|a, b| a == b) {
-        let length = u32::try_from(run.len()).unwrap_or(u32::MAX);
-        if run[0].from != run[0].to {
-            let name = months_text(rt.alloc(), month, length)?;
-            let from = product.class_text(run[0].from);
-            let to = product.class_text(run[0].to);
+    for run in handovers.chunk_by(|a, b| (a.from, a.to) == (b.from, b.to)) {
+        let Handover { month, from, to } = run[0];
+        if from != to {
+            let months = Months {
+                first: month,
+                count: u32::try_from(run.len()).unwrap_or(u32::MAX),
+            };
+            let name = months_text(rt.alloc(), months)?;
+            let from = product.class_text(from);
+            let to = product.class_text(to);
             let unit = product.unit();
-            let amount = quantity(terms, month, length);
+            let amount = quantity(terms, months);
             println!(rt; "    {name}: from {from} to {to}, {amount} {unit}.")?;
         }
-        month = month.saturating_add(length);
     }
     Ok(())
 }
@@ -65,24 +74,24 @@ fn follow<T: Terms>(
     rt: &HostRuntime,
     product: Product,
     terms: &T,
-    bought: Contract,
+    contract: Contract,
 ) -> anyhow::Result<()> {
-    let count = bought.months.count.min(12) as usize;
-    let mut holders = [bought.class; 12];
-    let mut day = bought.day;
+    let count = contract.months.count.min(12) as usize;
+    let mut holders = [contract.class; 12];
+    let mut day = contract.day;
     for _ in 0..2000 {
-        let all = handovers(terms, day, bought.months.first, &holders);
+        let all = handovers(terms, day, contract.months.first, &holders);
         let told = &all[..count];
-        if told.iter().any(|month| month.from != month.to) {
+        if told.iter().any(|handover| handover.from != handover.to) {
             let date = day_text(rt.alloc(), day)?;
             println!(rt; "  After the close of {date}:")?;
-            tell_changes(rt, product, terms, bought.months.first, told)?;
+            tell_changes(rt, product, terms, told)?;
         }
-        if told.iter().all(|month| month.to == terms.settling()) {
+        if told.iter().all(|handover| handover.to == terms.settling()) {
             println!(rt; "  Each month has reached the settling class.")?;
             return Ok(());
         }
-        holders = all.map(|month| month.to);
+        holders = all.map(|handover| handover.to);
         let Some(next) = calendars::next_after(&TermsOpenDays { terms }, day) else {
             return Ok(());
         };
@@ -108,15 +117,15 @@ pub fn tell<T: Terms>(
     terms: &T,
     year: u32,
 ) -> anyhow::Result<()> {
-    let Some(bought) = bought(terms, year) else {
+    let Some(contract) = bought(terms, year) else {
         println!(rt; "No class is tradable then, so no contract is followed.")?;
         return Ok(());
     };
-    let date = day_text(rt.alloc(), bought.day)?;
-    let name = product.class_text(bought.class);
+    let date = day_text(rt.alloc(), contract.day)?;
+    let name = product.class_text(contract.class);
     let unit = product.unit();
-    let span = months_text(rt.alloc(), bought.months.first, bought.months.count)?;
-    let amount = terms::quantity_of(terms, bought.day, bought.class);
+    let span = months_text(rt.alloc(), contract.months)?;
+    let amount = terms::quantity_of(terms, contract.day, contract.class);
     println!(rt; "On {date} a lot of {name} is bought: {span}, {amount} {unit} in all.")?;
-    follow(rt, product, terms, bought)
+    follow(rt, product, terms, contract)
 }

@@ -1,5 +1,5 @@
 #![tactic(auto)]
-// Follows one real task from start to end and says in plain sentences what took place.
+// Follows a year and its contracts, class by class, in plain sentences.
 mod contract_story;
 mod margin_story;
 
@@ -29,6 +29,7 @@ fn tell(rt: &HostRuntime, closed: Vec<u32>) -> anyhow::Result<()> {
     contract_story::tell(rt, Product::Wheat, &Wheat { calendar }, year)
 }
 
+// The like stands in the other walkthrough: what both tell is in `telling`, and what is left says which story is told.
 fn run(rt: &HostRuntime) -> anyhow::Result<()> {
     println!(rt; "Tekkuvazh, a margin book for power and durum-wheat futures.")?;
     match telling::closed_days(rt)? {

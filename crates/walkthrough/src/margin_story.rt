@@ -10,12 +10,12 @@ pub fn tell<T: Terms>(
     terms: &T,
     year: u32,
 ) -> anyhow::Result<()> {
-    let Some(bought) = bought(terms, year) else {
+    let Some(contract) = bought(terms, year) else {
         return Ok(());
     };
-    let name = product.class_text(bought.class);
+    let name = product.class_text(contract.class);
     let holding = Holding {
-        quantity: terms::quantity_of(terms, bought.day, bought.class),
+        quantity: terms::quantity_of(terms, contract.day, contract.class),
         lots: 1,
     };
     let price = bench::PRICE;
@@ -23,6 +23,7 @@ pub fn tell<T: Terms>(
     println!(rt;
         "The initial margin of that lot of {name} at {price} cents, with an interval of {interval} hundredths of a percent:"
     )?;
+    // The like stands in the other walkthrough, set in otherwise: shared, it would have to be told how far.
     for step in Step::all() {
         let result = holding.step_result(price, interval, step);
         println!(rt; "  step {step:?}: {result} cents")?;

@@ -1,4 +1,6 @@
 // One position from the trade to the final settlement, with its money.
+// The runtime, the product and the journal are passed on together: a struct of three borrows would say no more than their
+// names.
 use crate::journal::Journal;
 use crate::margin_story;
 use ledger::Call;
@@ -24,7 +26,7 @@ fn tell_holdings<T: Terms>(
         if lots != 0 {
             if let Some(here) = journal.book.terms().class_on(day, class) {
                 let name = product.class_text(class);
-                let span = months_text(rt.alloc(), here.months.first, here.months.count)?;
+                let span = months_text(rt.alloc(), here.months)?;
                 let amount = terms::quantity_of(journal.book.terms(), day, class);
                 let unit = product.unit();
                 println!(rt; "    {lots} lot of {name}: {span}, {amount} {unit}.")?;
@@ -58,7 +60,7 @@ fn open_position<T: Terms>(
         return Ok(false);
     }
     let name = product.class_text(class);
-    let span = months_text(rt.alloc(), months.first, months.count)?;
+    let span = months_text(rt.alloc(), months)?;
     let amount = terms::quantity_of(journal.book.terms(), day, class);
     let unit = product.unit();
     println!(rt;

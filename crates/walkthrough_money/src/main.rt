@@ -1,5 +1,5 @@
 #![tactic(auto)]
-// Follows one real task from start to end and says in plain sentences what took place.
+// Follows two positions with their money, from the trade to the final settlement, in plain sentences.
 mod book_story;
 mod journal;
 mod margin_story;
@@ -49,6 +49,7 @@ fn tell(rt: &HostRuntime, closed: Vec<u32>) -> anyhow::Result<()> {
     tell_position(rt, Product::Wheat, wheat, year)
 }
 
+// The like stands in the other walkthrough: what both tell is in `telling`, and what is left says which story is told.
 fn run(rt: &HostRuntime) -> anyhow::Result<()> {
     println!(rt; "Tekkuvazh, a margin book for power and durum-wheat futures.")?;
     match telling::closed_days(rt)? {

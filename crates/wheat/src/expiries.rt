@@ -4,11 +4,9 @@ ghost use Rattle.dates.specs.Dates.{when};
 ghost use Rattle.wheat.specs.Wheat.{expiry_month, expiries_before, tenth, last_trading_day, last_day, not_past, front_expiry, FrontIsFirstNotPast};
 
 use calendars::{Calendar, OpenDays};
+use dates::DAY_COUNT;
 
 const EXPIRIES: u32 = 400;
-
-// The number of days: the day after the last.
-const DAYS: u32 = 36_525;
 
 // The months of a year in which an expiry falls, from 0 for January.
 const MONTHS: [u32; 4] = [2, 4, 8, 11];
@@ -52,15 +50,15 @@ pub fn last_trading_day<C: Calendar>(calendar: &C, expiry: u32) -> Option<u32>
     ensures law { FrontIsFirstNotPast (C.opens calendar.now) }
 {
     let tenth = tenth_day(expiry)?;
-    calendars::first_between(&OpenDays { calendar }, tenth, DAYS)
+    calendars::first_between(&OpenDays { calendar }, tenth, DAY_COUNT)
 }
 
-// The same as a number, beyond all days where there is none.
+// The same as a number, beyond all days where there is none, as the definition has it: every day can be compared with it.
 pub(crate) fn last_day<C: Calendar>(calendar: &C, expiry: u32) -> u32
     ensures is { result ≡ last_day (C.opens calendar.now) expiry }
     ensures bound { result ≤ 36525 }
 {
-    last_trading_day(calendar, expiry).unwrap_or(DAYS)
+    last_trading_day(calendar, expiry).unwrap_or(DAY_COUNT)
 }
 
 // An expiry, or the next where its last trading day is past.

@@ -6,10 +6,8 @@ ghost use Rattle.wheat.specs.WheatLaws.{wheat-laws};
 use crate::classes::{CLASSES, DEL, T01, row};
 use crate::expiries::{expiry_month, front_expiry, last_day};
 use calendars::{Calendar, OpenDays};
+use dates::MONTH_COUNT;
 use terms::{ClassTerms, Months, Terms};
-
-// The number of months: the month after the last.
-const MONTHS: u32 = 1200;
 
 // The tons of one lot in a month.
 const TONS: u32 = 50;
@@ -34,18 +32,18 @@ fn class_with<C: Calendar>(calendar: &C, day: u32, front: u32, class: u32) -> Cl
     requires { (day < 36525) × ((0 < front) × ((front < 396) × (class < 6))) }
     ensures { result ≡ class_with (C.opens calendar.now) day front class }
 {
-    let row = row(class);
+    let class_row = row(class);
     let last = last_day(calendar, front);
     ClassTerms {
         months: Months {
-            first: expiry_month(front + row.place - 1),
-            count: row.period.months(),
+            first: expiry_month(front + class_row.place - 1),
+            count: class_row.period.months(),
         },
         tradable: class != DEL,
         interval_class: interval_class(calendar, day, last, class),
         parts: [false; 12],
         successor: if last == day {
-            row.earlier
+            class_row.earlier
         } else {
             Some(class)
         },
@@ -76,7 +74,7 @@ impl<C: Calendar> Terms for Wheat<C> {
     }
 
     fn month_quantity(&self, month: u32) -> Option<u32> {
-        (month < MONTHS).then_some(TONS)
+        (month < MONTH_COUNT).then_some(TONS)
     }
 
     fn class_on(&self, day: u32, class: u32) -> Option<ClassTerms> {

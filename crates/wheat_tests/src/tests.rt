@@ -56,6 +56,22 @@ fn moves_up_after_12_may_2008(rt: HostRuntime) {
     );
 }
 
+// The last trading days of March, September and December 2008, and the days after: T01, T05 and DEL.
+#[test]
+fn moves_up_at_each_expiry(rt: HostRuntime) {
+    let months = |day| [month(day, 0), month(day, 4), month(day, 5)];
+    assert_eq!(rt; months(2991), [Some(98), Some(110), Some(95)]);
+    assert_eq!(rt; months(2992), [Some(100), Some(112), Some(98)]);
+    assert_eq!(rt; months(3175), [Some(104), Some(116), Some(100)]);
+    assert_eq!(rt; months(3176), [Some(107), Some(119), Some(104)]);
+    assert_eq!(rt; months(3266), [Some(107), Some(119), Some(104)]);
+    assert_eq!(rt; months(3267), [Some(110), Some(122), Some(107)]);
+    assert_eq!(rt;
+        [2991, 3175, 3266].map(|day| successor(day, 0)),
+        [Some(5), Some(5), Some(5)]
+    );
+}
+
 // From 1 January 2001 to 31 December 2096.
 #[test]
 fn answers_for_96_years(rt: HostRuntime) {

@@ -5,21 +5,16 @@ use std::test::Fail;
 
 // The number of the question that a list fails, or 0.
 fn refusal(closed: Vec<u32>) -> u8 {
-    match ListCalendar::new(closed) {
-        Ok(_) => 0,
-        Err(refused) => refused.fault.number(),
-    }
+    ListCalendar::new(closed)
+        .err()
+        .map_or(0, |refused| refused.fault.number())
 }
 
 // The weekdays, or the Saturdays and Sundays, from one day on, before another.
 fn days(heap: Global, from: u32, to: u32, weekdays: bool) -> Result<Vec<u32>, AllocError> {
-    let mut days = Vec::new(heap);
-    for day in from..to {
-        if dates::is_weekday(day) == weekdays {
-            days.push(day)?;
-        }
-    }
-    Ok(days)
+    (from..to)
+        .filter(|&day| dates::is_weekday(day) == weekdays)
+        .collect(heap)
 }
 
 #[test]

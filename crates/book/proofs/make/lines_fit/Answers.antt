@@ -1,18 +1,14 @@
-use Rattle.std.proofs.Common.{refl, sym, ◌∙◌, arith}
-use Rattle.book.proofs.ClassLines.{not-as-many, line-no, line-yes, lines_end}
+use Rattle.std.proofs.Common.{◌≡◌, true, false, ◌∙◌, arith, rules}
+use Rattle.book.proofs.ClassLines.{not-as-many, lines-asked}
+use Rattle.book.specs.Lines.{line_fits}
+use Rattle.std.proofs.lemmas.Bool.{ne_eqb}
+use Rattle.std.proofs.lemmas.Iterator.{cases_from_all, YieldsList-from_range, YieldsList-from_slice, YieldsList-from_zip}
 use Rattle.book.proofs.make.lines_fit.Goals as goal
 
 pub returns-then-lines-classes-clause-is : goal.returns-then-lines-classes-clause-is
-returns-then-lines-classes-clause-is c = not-as-many _ _ c.if-lines-classes.true
+returns-then-lines-classes-clause-is c =
+    let n = c.args.classes in
+    lines-asked n c.args.lines.now c.all.result c.if-lines-classes.true (cases_from_all c.all.new.self _ _ (λ p. line_fits p.0 p.1 ≡ true) (λ p. line_fits p.0 p.1 ≡ false) c.all.ensures.ran (YieldsList-from_zip (YieldsList-from_slice _ (search rules)) (YieldsList-from_range 0 n n (search rules) (omega arith))) (λ x q k. search rules) (λ x q k. search rules))
 
-pub loop-class-init : goal.loop-class-init
-loop-class-init c = refl
-
-pub returns-then-not-line_fits-clause-is : goal.returns-then-not-line_fits-clause-is
-returns-then-not-line_fits-clause-is c = line-no _ _ c.loop-class.class c.loop-class-test.true c.loop-class.invariant (sym c.line_fits.ensures ∙ c.if-not-line_fits.true)
-
-pub loop-class-preserved : goal.loop-class-preserved
-loop-class-preserved c = line-yes _ _ c.loop-class.class c.loop-class-test.true c.loop-class.invariant (sym c.line_fits.ensures ∙ c.if-not-line_fits.false)
-
-pub returns-clause-is : goal.returns-clause-is
-returns-clause-is c = lines_end _ _ c.loop-class.class c.loop-class-test.false (omega arith) c.loop-class.invariant
+pub returns-else-lines-classes-clause-is : goal.returns-else-lines-classes-clause-is
+returns-else-lines-classes-clause-is c = ne_eqb _ _ c.if-lines-classes.false ∙ not-as-many _ _ c.if-lines-classes.false

@@ -1,6 +1,8 @@
-use Rattle.std.proofs.Common.{◌≡◌, ◌-◌, Some, sym, ap, ◌∙◌, arith, unwrap_or}
+use Rattle.std.proofs.Common.{◌+◌, ◌≡◌, Some, sym, ap, ◌∙◌, arith, rules, tests}
+use Rattle.std.proofs.lemmas.Iterator.{YieldsList-from_map, YieldsList-from_range}
+use Rattle.std.proofs.lemmas.Iterator.Consumers.{sum_by_from_yields_List, fits_by_from_yields_list}
 use Rattle.terms.specs.Meaning.{class_quantity}
-use Rattle.terms.proofs.ClassQuantities.{class-sum, no-quantity, month-read, sum-next, parts-and-successors}
+use Rattle.terms.proofs.ClassQuantities.{class-sum, no-quantity, told, told-sum, run-most, parts-and-successors}
 use Rattle.terms.proofs.quantity.quantity_of.Goals as goal
 
 pub returns-in_default-clause-is : goal.returns-in_default-clause-is
@@ -11,23 +13,24 @@ returns-in_default-clause-is g c =
 pub returns-in_default-clause-law : goal.returns-in_default-clause-law
 returns-in_default-clause-law g c = parts-and-successors _ (g.met.T.Terms.lawful c.args.terms.now)
 
-pub loop-month-preserved : goal.loop-month-preserved
-loop-month-preserved g c =
+pub sum-requires-clause-fits : goal.sum-requires-clause-fits
+sum-requires-clause-fits g c =
     let law = g.met.T.Terms.lawful c.args.terms.now in
     let q = (g.T.Terms.meaning c.args.terms.now).quantity in
-    let m = c.loop-month.month in
-    let r = law.ranges _ _ _ (sym c.class_on.ensures ∙ c.in-Some.is) in
-    let v : c.unwrap_or-sum.result ≡ q m = c.unwrap_or-sum.ensures ∙ ap (λ o. unwrap_or o 0) c.month_quantity.ensures ∙ month-read q m (omega (arith, r.last)) in
-    (omega (arith, v, sum-next q c.in-Some.class.months.first m (omega arith), c.loop-month.invariant.0), omega (arith, v, law.quantities m (omega (arith, r.last)), c.loop-month.invariant.1))
+    let months = c.in-Some.class.months in
+    let r = law.ranges c.args.day c.args.class c.in-Some.class (sym c.class_on.ensures ∙ c.in-Some.is) in
+    fits_by_from_yields_list (told q) _ c.map.result _ (YieldsList-from_map _ _ (YieldsList-from_range months.first (months.first + months.count) months.count c.map.ensures.source (omega arith)) c.map.ensures.closure (λ x r q k. search (rules, tests))) (omega (arith, r.few, told-sum q months.count months.first r.last, run-most q months.count months.first r.last (λ m l. (law.quantities m l).1)))
 
-pub returns-clause-is : goal.returns-clause-is
-returns-clause-is g c =
+pub returns : goal.returns
+returns g c =
     let w = g.T.Terms.meaning c.args.terms.now in
+    let law = g.met.T.Terms.lawful c.args.terms.now in
     let t = c.in-Some.class in
     let on : w.on c.args.day c.args.class ≡ Some t = sym c.class_on.ensures ∙ c.in-Some.is in
-    let r = (g.met.T.Terms.lawful c.args.terms.now).ranges _ _ t on in
-    let end : c.loop-month.month - t.months.first ≡ t.months.count = omega arith in
-    rw end at c.loop-month.invariant.0 ∙ sym (ap (class_quantity w) on ∙ class-sum w t r.last)
-
-pub returns-clause-law : goal.returns-clause-law
-returns-clause-law g c = parts-and-successors _ (g.met.T.Terms.lawful c.args.terms.now)
+    let r = law.ranges c.args.day c.args.class t on in
+    let is = sum_by_from_yields_List (told w.quantity) _ c.map.result c.sum.result c.sum.ensures.ran (YieldsList-from_map _ _ (YieldsList-from_range t.months.first (t.months.first + t.months.count) t.months.count c.map.ensures.source (omega arith)) c.map.ensures.closure (λ x r q k. search (rules, tests))) ∙ told-sum w.quantity t.months.count t.months.first r.last in
+    record {
+      is = is ∙ sym (ap (class_quantity w) on ∙ class-sum w t r.last);
+      bound = omega (arith, is, r.few, run-most w.quantity t.months.count t.months.first r.last (λ m l. (law.quantities m l).1));
+      law = parts-and-successors w law;
+    }
