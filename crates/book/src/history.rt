@@ -2,7 +2,7 @@
 ghost use Rattle.std.specs.Prelude.{◌≡◌, map, reverse, IfOk, Some, None, MatchResult};
 ghost use Rattle.book.specs.Replies.{reply};
 ghost use Rattle.book.specs.Tables.{view, after_tables};
-ghost use Rattle.book.specs.TablesLaw.{Life};
+ghost use Rattle.book.specs.TablesLaw.{Life, LivesOn};
 ghost use Rattle.ledger.specs.Calls.{refusal};
 ghost use Rattle.ledger.specs.Make.{make_refusal};
 ghost use Rattle.ledger.specs.declared.call.Call.TheVariants.{Settle, Close};
@@ -44,6 +44,7 @@ impl<T: Terms> Book<T> {
         ensures answer { result ≡ reply (refusal (T.meaning self.old.terms) (view self.old.tables) call) tt }
         ensures after { self.new.tables ≡ after_tables (T.meaning self.old.terms) self.old.tables call }
         ensures terms { self.new.terms ≡ self.old.terms }
+        ensures life { LivesOn (T.meaning self.old.terms) self.old.tables call self.new.tables }
     {
         match call {
             Call::Trade {
