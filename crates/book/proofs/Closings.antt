@@ -15,7 +15,7 @@ use Rattle.closing.specs.Closing.{closing_of, keeps_limit, all_priced, moved_lot
 use Rattle.closing.specs.declared.closing.Closing.{Closing}
 use Rattle.ledger.proofs.Tests.{all-each, all_same, ask-none}
 use Rattle.ledger.specs.Calls.{by_end, close_pay, close_refusal, lots_fit, after_parts}
-use Rattle.ledger.specs.Questions.{list_after_close, written}
+use Rattle.ledger.specs.Questions.{list_after, written}
 use Rattle.ledger.specs.Words.{all_below, ask, unless, at}
 use Rattle.ledger.specs.declared.call.Call.TheVariants.{Close}
 use Rattle.ledger.specs.declared.fault.Fault.{Fault}
@@ -80,7 +80,7 @@ module _ (w : Meaning) (law : Laws w) (t : Tables) where
       pub close_late : close_refusal w (view t) (length list) ≡ pay_refusal t (at pays)
       close_late = close-then ∙ ap (λ o. and_then o (pay_refusal t (close_pay w (view t)))) q ∙ sym (refusal-same t (at pays) (close_pay w (view t)) same)
 
-      pub close-list : (ls : List Payment) → ls ≡ unless (pay_refusal t (at pays)) (written list t.count (at pays)) list → ls ≡ list_after_close w (view t) list
+      pub close-list : (ls : List Payment) → ls ≡ unless (pay_refusal t (at pays)) (written list t.count (at pays)) list → ls ≡ list_after w (view t) (Close (length list)) list
       close-list ls e = e ∙ (λ i. unless (sym close_late i) (written_same t (at pays) (close_pay w (view t)) same list i) list)
 
       pub close-refused : (u : Tables) (e : Fault) → pay_refusal t (at pays) ≡ Some e → u ≡ unless (pay_refusal t (at pays)) (paid_tables t (at pays)) t → u ≡ after_tables w t (Close (length list))

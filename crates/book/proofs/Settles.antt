@@ -10,7 +10,7 @@ use Rattle.book.specs.InUse.{credited, emptied, paid_tables, emptied_tables, set
 use Rattle.book.specs.declared.tables.Tables.{Tables}
 use Rattle.ledger.specs.Calls.{price_fits, settle_pay, settle_refusal}
 use Rattle.ledger.specs.Prices.{settled_prices}
-use Rattle.ledger.specs.Questions.{list_after_settle, written}
+use Rattle.ledger.specs.Questions.{list_after, written}
 use Rattle.ledger.specs.Words.{unless, at}
 use Rattle.ledger.specs.declared.call.Call.TheVariants.{Settle}
 use Rattle.ledger.specs.declared.fault.Fault.{Fault}
@@ -32,7 +32,7 @@ module _ (w : Meaning) (t : Tables) (f : ℤ) (list : List Payment) where
     pub settle-late : settle_refusal w (view t) f (length list) ≡ pay_refusal t (at pays)
     settle-late = settle-then ∙ ap (λ o. and_then o (pay_refusal t (settle_pay w (view t) f))) q ∙ sym (refusal-same t (at pays) (settle_pay w (view t) f) each)
 
-    pub settle-list : (ls : List Payment) → ls ≡ unless (pay_refusal t (at pays)) (written list t.count (at pays)) list → ls ≡ list_after_settle w (view t) f list
+    pub settle-list : (ls : List Payment) → ls ≡ unless (pay_refusal t (at pays)) (written list t.count (at pays)) list → ls ≡ list_after w (view t) (Settle f (length list)) list
     settle-list ls e = e ∙ (λ i. unless (sym settle-late i) (written_same t (at pays) (settle_pay w (view t) f) each list i) list)
 
     pub settle-refused : (u : Tables) (e : Fault) → pay_refusal t (at pays) ≡ Some e → u ≡ unless (pay_refusal t (at pays)) (paid_tables t (at pays)) t → u ≡ after_tables w t (Settle f (length list))

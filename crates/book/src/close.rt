@@ -8,7 +8,7 @@ ghost use Rattle.book.specs.InUse.{each_below, with_accounts};
 ghost use Rattle.book.specs.TablesLaw.{LivesOn};
 ghost use Rattle.closing.specs.Closing.{keeps_limit, paid_by, moved_lots};
 ghost use Rattle.ledger.specs.Calls.{by_end, close_refusal};
-ghost use Rattle.ledger.specs.Questions.{list_after_close};
+ghost use Rattle.ledger.specs.Questions.{list_after};
 ghost use Rattle.ledger.specs.Words.{all_below, at};
 ghost use Rattle.ledger.specs.declared.call.Call.TheVariants.{Close};
 
@@ -149,7 +149,7 @@ impl<T: Terms> Book<T> {
     pub fn close(&mut self, list: &mut [Payment]) -> Result<(), Fault>
         ensures answer { result ≡ reply (close_refusal (T.meaning self.old.terms) (view self.old.tables) (length list.old)) tt }
         ensures after { self.new.tables ≡ after_tables (T.meaning self.old.terms) self.old.tables (Close (length list.old)) }
-        ensures list { list.new ≡ list_after_close (T.meaning self.old.terms) (view self.old.tables) list.old }
+        ensures list { list.new ≡ list_after (T.meaning self.old.terms) (view self.old.tables) (Close (length list.old)) list.old }
         ensures terms { self.new.terms ≡ self.old.terms }
         ensures life { LivesOn (T.meaning self.old.terms) self.old.tables (Close (length list.old)) self.new.tables }
     {

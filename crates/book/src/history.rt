@@ -5,6 +5,7 @@ ghost use Rattle.book.specs.Tables.{view, after_tables};
 ghost use Rattle.book.specs.TablesLaw.{Life, LivesOn};
 ghost use Rattle.ledger.specs.Calls.{refusal};
 ghost use Rattle.ledger.specs.Make.{make_refusal};
+ghost use Rattle.ledger.specs.Questions.{list_after};
 ghost use Rattle.ledger.specs.declared.call.Call.TheVariants.{Settle, Close};
 
 use crate::book::Book;
@@ -19,30 +20,37 @@ const NO_PAYMENT: Payment = Payment {
 };
 
 impl<T: Terms> Book<T> {
-    // A settle whose payment list has so many lines.
-    fn settle_with(&mut self, price: i32, room: usize) -> Result<(), Fault>
+    // A settle whose payment list has so many lines: the first of the list.
+    fn settle_with(
+        &mut self,
+        price: i32,
+        room: usize,
+        list: &mut [Payment; 32],
+    ) -> Result<(), Fault>
         ensures answer { result ≡ reply (refusal (T.meaning self.old.terms) (view self.old.tables) (Settle price room)) tt }
         ensures after { self.new.tables ≡ after_tables (T.meaning self.old.terms) self.old.tables (Settle price room) }
+        ensures list { list.new ≡ list_after (T.meaning self.old.terms) (view self.old.tables) (Settle price room) list.old }
         ensures terms { self.new.terms ≡ self.old.terms }
     {
-        let mut list = [NO_PAYMENT; 32];
         self.settle(price, &mut list[..room.min(32)])
     }
 
-    // A close whose payment list has so many lines.
-    fn close_with(&mut self, room: usize) -> Result<(), Fault>
+    // A close whose payment list has so many lines: the first of the list.
+    fn close_with(&mut self, room: usize, list: &mut [Payment; 32]) -> Result<(), Fault>
         ensures answer { result ≡ reply (refusal (T.meaning self.old.terms) (view self.old.tables) (Close room)) tt }
         ensures after { self.new.tables ≡ after_tables (T.meaning self.old.terms) self.old.tables (Close room) }
+        ensures list { list.new ≡ list_after (T.meaning self.old.terms) (view self.old.tables) (Close room) list.old }
         ensures terms { self.new.terms ≡ self.old.terms }
     {
-        let mut list = [NO_PAYMENT; 32];
         self.close(&mut list[..room.min(32)])
     }
 
-    // Any call, and its answer. A call is data: `replay` is handed a list of them, and the law of the ledger speaks of it.
-    pub fn call(&mut self, call: Call) -> Result<(), Fault>
+    // Any call, and its answer. A call is data: `replay` is handed a list of them, and the law of the ledger speaks of it. A
+    // settle and a close get the first lines of the list, as many as the call says.
+    pub fn call(&mut self, call: Call, list: &mut [Payment; 32]) -> Result<(), Fault>
         ensures answer { result ≡ reply (refusal (T.meaning self.old.terms) (view self.old.tables) call) tt }
         ensures after { self.new.tables ≡ after_tables (T.meaning self.old.terms) self.old.tables call }
+        ensures list { list.new ≡ list_after (T.meaning self.old.terms) (view self.old.tables) call list.old }
         ensures terms { self.new.terms ≡ self.old.terms }
         ensures life { LivesOn (T.meaning self.old.terms) self.old.tables call self.new.tables }
     {
@@ -56,8 +64,8 @@ impl<T: Terms> Book<T> {
             } => self.trade(buyer, seller, class, lots, price),
             Call::Mark { class, price } => self.mark(class, price),
             Call::Reprice { class, price } => self.reprice(class, price),
-            Call::Settle { price, room } => self.settle_with(price, room),
-            Call::Close { room } => self.close_with(room),
+            Call::Settle { price, room } => self.settle_with(price, room, list),
+            Call::Close { room } => self.close_with(room, list),
         }
     }
 }
@@ -69,7 +77,8 @@ impl<T: Terms> Book<T> {
         ensures after { self.new.tables ≡ after_tables (T.meaning self.old.terms) self.old.tables entry.old.call }
         ensures terms { self.new.terms ≡ self.old.terms }
     {
-        entry.answer = self.call(entry.call).err();
+        let mut list = [NO_PAYMENT; 32];
+        entry.answer = self.call(entry.call, &mut list).err();
     }
 
     // A book is made and handed a list of calls. Each entry's answer is written beside its call. The law of the ledger holds of

@@ -33,6 +33,13 @@ impl<T: Terms> Book<T> {
             .and_then(|prices| prices.last)
     }
 
+    // How many accounts the book has; they are numbered from 0.
+    pub fn accounts(&self) -> u32
+        ensures { result ≡ (view self.now.tables).accounts }
+    {
+        self.tables.count
+    }
+
     // The day of the book.
     pub fn day(&self) -> u32
         ensures { result ≡ (view self.now.tables).day }

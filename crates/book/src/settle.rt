@@ -8,7 +8,7 @@ ghost use Rattle.book.specs.Tables.{account_of, view, after_tables};
 ghost use Rattle.book.specs.InUse.{emptied, emptied_tables};
 ghost use Rattle.book.specs.TablesLaw.{LivesOn};
 ghost use Rattle.ledger.specs.Calls.{settle_pay, settle_refusal};
-ghost use Rattle.ledger.specs.Questions.{list_after_settle};
+ghost use Rattle.ledger.specs.Questions.{list_after};
 ghost use Rattle.ledger.specs.Words.{at};
 ghost use Rattle.ledger.specs.declared.call.Call.TheVariants.{Settle};
 
@@ -114,7 +114,7 @@ impl<T: Terms> Book<T> {
     pub fn settle(&mut self, price: i32, list: &mut [Payment]) -> Result<(), Fault>
         ensures answer { result ≡ reply (settle_refusal (T.meaning self.old.terms) (view self.old.tables) price (length list.old)) tt }
         ensures after { self.new.tables ≡ after_tables (T.meaning self.old.terms) self.old.tables (Settle price (length list.old)) }
-        ensures list { list.new ≡ list_after_settle (T.meaning self.old.terms) (view self.old.tables) price list.old }
+        ensures list { list.new ≡ list_after (T.meaning self.old.terms) (view self.old.tables) (Settle price (length list.old)) list.old }
         ensures terms { self.new.terms ≡ self.old.terms }
         ensures life { LivesOn (T.meaning self.old.terms) self.old.tables (Settle price (length list.old)) self.new.tables }
     {

@@ -54,7 +54,7 @@ figures-enter : (w : Meaning) (start : ℕ) (e : Entry) (h : History) → figure
 unfolding net since costs booked final
 figures-enter w start e h = refl
 
-plus-zero : (x : ℤ) → x +ℤ pos 0 ≡ x
+pub plus-zero : (x : ℤ) → x +ℤ pos 0 ≡ x
 plus-zero x = plus_none x (pos 0) refl
 
 -- nothing is added

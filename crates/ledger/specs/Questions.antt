@@ -7,6 +7,8 @@ use Rattle.coded.specs.declared.class_line.ClassLine.{ClassLine}
 use Rattle.ledger.specs.Calls.{known, settle_pay, close_pay, settle_refusal, close_refusal}
 use Rattle.ledger.specs.State.{State, class_now, quantity_now}
 use Rattle.ledger.specs.Words.{ask, all_below, or_zero, from, unless}
+use Rattle.ledger.specs.declared.call.Call.{Call}
+use Rattle.ledger.specs.declared.call.Call.TheVariants.{Trade, Mark, Reprice, Settle, Close}
 use Rattle.ledger.specs.declared.fault.Fault.{Fault}
 use Rattle.ledger.specs.declared.fault.Fault.TheVariants.{UnknownAccount, HeldUnpriced, UnknownClass}
 use Rattle.ledger.specs.declared.payment.Payment.{Payment}
@@ -72,21 +74,6 @@ cash s a = s.cash a
 abbrev pub day : State → ℕ
 day s = s.day
 
--- ---- payment lines: an account and the cents that the call paid it, in account order
-
-pub record Line : Type 0 where
-  pub account : ℕ
-  pub cents : ℤ
-
-abbrev pub lines : State → (ℕ → ℤ) → List Line
-lines s pays = map (λ a. record { account = a; cents = pays a }) (range_with_len 0 s.accounts)
-
-abbrev pub settle_lines : Meaning → State → ℤ → List Line
-settle_lines w s f = lines s (settle_pay w s f)
-
-abbrev pub close_lines : Meaning → State → List Line
-close_lines w s = lines s (close_pay w s)
-
 -- ---- payment lists
 
 -- the lines that a call writes: one for each account, in account order, with the cents that the call paid it
@@ -97,9 +84,10 @@ payment_lines n pays = map (λ a. record { account = a; cents = pays a }) (range
 abbrev pub written : List Payment → ℕ → (ℕ → ℤ) → List Payment
 written list n pays = payment_lines n pays ++ drop n list
 
--- a payment list after a settle and after a close; a refusal leaves it as it was
-abbrev pub list_after_settle : Meaning → State → ℤ → List Payment → List Payment
-list_after_settle w s f list = unless (settle_refusal w s f (length list)) (written list s.accounts (settle_pay w s f)) list
-
-abbrev pub list_after_close : Meaning → State → List Payment → List Payment
-list_after_close w s list = unless (close_refusal w s (length list)) (written list s.accounts (close_pay w s)) list
+-- a payment list after any call: settle and close write into it, and a refusal leaves it as it was
+abbrev pub list_after : Meaning → State → Call → List Payment → List Payment
+list_after w s (Trade buyer seller c n p) list = list
+list_after w s (Mark c p) list = list
+list_after w s (Reprice c p) list = list
+list_after w s (Settle f room) list = unless (settle_refusal w s f room) (written list s.accounts (settle_pay w s f)) list
+list_after w s (Close room) list = unless (close_refusal w s room) (written list s.accounts (close_pay w s)) list
