@@ -86,17 +86,17 @@ takes_over w d c = not (eqb c w.settling) && names (successor (w.on d c)) w.sett
 pub read-successor : (w : Meaning) → Laws w → (d c : ℕ) (all : List (Option ℕ)) → all ≡ successors_on w d → c < w.classes → get_or all c None ≡ successor (w.on d c)
 read-successor w law d c all e h = ap (λ (l : List (Option ℕ)). get_or l c None) e ∙ get_or-map-range_with_len (λ c. successor (w.on d c)) 0 12 c c None (omega (arith, law.twelve)) (omega arith)
 
--- ---- a sum of at most twelve numbers, each of size at most m; y is what the code has for the next number x
+-- ---- a sum of at most `top` numbers, each of size at most m; y is what the code has for the next number x
 
 abbrev pub Summed : (ℕ → ℤ) → ℕ → ℕ → ℤ → Type 0
 Summed f m n s = (s ≡ sum_z n f) × (nat_abs s ≤ m * n)
 
-module _ (w : Width) (f : ℕ → ℤ) (m n : ℕ) (small : m * 12 < 2 ^ hbits w) (last : n < 12) (s x y : ℤ) (so_far : Summed f m n s) (same : y ≡ x) (here : x ≡ f n) (size : nat_abs x ≤ m) where
+module _ (w : Width) (f : ℕ → ℤ) (m n top : ℕ) (small : m * top < 2 ^ hbits w) (last : n < top) (s x y : ℤ) (so_far : Summed f m n s) (same : y ≡ x) (here : x ≡ f n) (size : nat_abs x ≤ m) where
   bound : nat_abs (s +ℤ x) ≤ m * (n + 1)
   bound = rw mul-add (omega (arith, ints, so_far.1))
 
   fits : SFits w (s +ℤ x)
-  fits = let room : m * (n + 1) ≤ m * 12 = mul-le-mul_left m (omega arith) in small-fits w (s +ℤ x) (omega (arith, bound))
+  fits = let room : m * (n + 1) ≤ m * top = mul-le-mul_left m (omega arith) in small-fits w (s +ℤ x) (omega (arith, bound))
 
   pub sum_fits : SFits w (s +ℤ y)
   sum_fits = rw same fits

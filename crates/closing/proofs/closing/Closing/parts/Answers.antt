@@ -9,12 +9,12 @@ use Rattle.closing.proofs.closing.Closing.parts.Goals as goal
 pub overflow_add-sum : goal.overflow_add-sum
 overflow_add-sum c =
     let r = c.class_parts-sum in
-    sum_fits w128 (λ e. sum_z 12 (part_by c.args.self.now c.args.prices.now c.args.lots.now e)) (2 ^ 96 * 12) c.loop-class.class (lit< tt) c.loop-class-test.true _ r.result _ c.loop-class.invariant (to_z-of_z w128 _ (record { sfits = r.type_inv })) r.ensures.is r.ensures.bound
+    sum_fits w128 (λ e. sum_z 12 (part_by c.args.self.now c.args.prices.now c.args.lots.now e)) (2 ^ 96 * 12) c.loop-class.class 12 (lit< tt) c.loop-class-test.true _ r.result _ c.loop-class.invariant (to_z-of_z w128 _ (record { sfits = r.type_inv })) r.ensures.is r.ensures.bound
 
 pub loop-class-preserved : goal.loop-class-preserved
 loop-class-preserved c =
     let r = c.class_parts-sum in
-    sum-turn w128 (λ e. sum_z 12 (part_by c.args.self.now c.args.prices.now c.args.lots.now e)) (2 ^ 96 * 12) c.loop-class.class (lit< tt) c.loop-class-test.true _ r.result _ c.loop-class.invariant (to_z-of_z w128 _ (record { sfits = r.type_inv })) r.ensures.is r.ensures.bound
+    sum-turn w128 (λ e. sum_z 12 (part_by c.args.self.now c.args.prices.now c.args.lots.now e)) (2 ^ 96 * 12) c.loop-class.class 12 (lit< tt) c.loop-class-test.true _ r.result _ c.loop-class.invariant (to_z-of_z w128 _ (record { sfits = r.type_inv })) r.ensures.is r.ensures.bound
 
 pub returns : goal.returns
 returns c =

@@ -1,0 +1,3 @@
+pub mod Notes
+pub mod Statings
+pub mod Totals

@@ -1,0 +1,3 @@
+pub mod Figures
+pub mod Lived
+pub mod Statements
