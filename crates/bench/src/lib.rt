@@ -1,8 +1,11 @@
 #![tactic(auto)]
-// The figures of the bench's standing set-up: start month, margin interval, price.
+// The figures of the bench's standing set-up: start month, accounts, margin interval, prices.
 
 // The month in its year, from 0, in which the bench's stories begin: March.
 pub const START_IN_YEAR: u32 = 2;
+
+// Two accounts, 0 and 1.
+pub const ACCOUNTS: u32 = 2;
 
 // Every class's margin interval, in hundredths of a percent.
 pub const INTERVAL: u16 = 1000;

@@ -7,6 +7,7 @@ ghost use Rattle.journal.specs.Lived.{Lived};
 ghost use Rattle.ledger.specs.Calls.{refusal};
 ghost use Rattle.ledger.specs.Make.{make_refusal};
 ghost use Rattle.ledger.specs.Questions.{list_after};
+ghost use Rattle.std.specs.Result.{result_err};
 
 use book::{Book, NotMade};
 use coded::ClassLine;
@@ -25,6 +26,16 @@ pub struct Journal<T: Terms> {
     pub(crate) entries: Vec<Entry>,
     ghost lived: { ∥ Lived (T.meaning book.terms) month entries.items book.tables ∥₁ },
     ghost few: { length entries.items ≤ 1000000000 },
+}
+
+// A call with its answer.
+fn noted(call: Call, answer: Result<(), Fault>) -> Entry
+    ensures { result ≡ record { call = call; answer = result_err answer } }
+{
+    Entry {
+        call,
+        answer: answer.err(),
+    }
 }
 
 impl<T: Terms> Journal<T> {
@@ -77,11 +88,7 @@ impl<T: Terms> Journal<T> {
         }
         self.entries.reserve(1)?;
         let answer = self.book.call(call, list);
-        let entry = Entry {
-            call,
-            answer: answer.err(),
-        };
-        self.entries.push(entry)?;
+        self.entries.push(noted(call, answer))?;
         Ok(answer)
     }
 }

@@ -1,5 +1,5 @@
 // An account's statement: the figures of the law of the ledger.
-ghost use Rattle.std.specs.Prelude.{◌≡◌, ◌^◌, ◌<◌, ◌≤◌, reverse, pos, ◌-ℤ◌, ◌*ℤ◌, Some, None, MatchResult, unsigned_abs};
+ghost use Rattle.std.specs.Prelude.{◌≡◌, ◌^◌, ◌<◌, ◌≤◌, reverse, pos, ◌-ℤ◌, ◌*ℤ◌, Some, None, MatchResult, slice_index_or, unsigned_abs};
 ghost use Rattle.amounts.specs.SumsOfWhole.{sum_z};
 ghost use Rattle.book.specs.Replies.{reply};
 ghost use Rattle.book.specs.Tables.{view};
@@ -8,6 +8,7 @@ ghost use Rattle.journal.specs.Figures.{held_in, last_in, final_in};
 ghost use Rattle.journal.specs.Statements.{States};
 ghost use Rattle.ledger.specs.Ledger.{held as held_by_law};
 ghost use Rattle.ledger.specs.Questions.{cash_refusal};
+ghost use Rattle.ledger.specs.Words.{at};
 
 use crate::journal::Journal;
 use crate::sums::{lots_in, total};
@@ -23,6 +24,29 @@ pub struct Statement {
     pub reading: Reading,
     pub at_last: i128,
     pub at_final: i128,
+}
+
+impl Statement {
+    // The accepted buys less sells of a month; 0 for a number that is no month.
+    pub fn net(&self, month: u32) -> i64
+        ensures { result ≡ at self.now.reading.nets month }
+    {
+        self.reading.nets.get(month as usize).copied().unwrap_or(0)
+    }
+
+    // The final price of a month, if it is finally settled.
+    pub fn final_price(&self, month: u32) -> Option<i32>
+        ensures { result ≡ slice_index_or self.now.reading.finals month None }
+    {
+        self.reading.finals.get(month as usize).copied().flatten()
+    }
+
+    // The trades at cost, those since the last accepted close left out.
+    pub fn booked(&self) -> i128
+        ensures { result ≡ self.now.reading.booked }
+    {
+        self.reading.booked
+    }
 }
 
 // What one lot is worth at a price.

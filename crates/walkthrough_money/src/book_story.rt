@@ -1,11 +1,11 @@
 // One position from the trade to the final settlement, with its money.
-// The runtime, the product and the journal are passed on together: a struct of three borrows would say no more than their
+// The runtime, the product and the desk are passed on together: a struct of three borrows would say no more than their
 // names.
-use crate::journal::Journal;
+use crate::desk::Desk;
 use crate::margin_story;
 use ledger::Call;
 use telling::{Product, day_text, longest_class, months_text};
-use terms::Terms;
+use terms::{Months, Terms};
 
 // The settlement price of a class on a day: dearer for later months of the year, and moving from day to day.
 fn settlement_price<T: Terms>(terms: &T, day: u32, class: u32) -> Option<i32> {
@@ -19,15 +19,15 @@ fn settlement_price<T: Terms>(terms: &T, day: u32, class: u32) -> Option<i32> {
 fn tell_holdings<T: Terms>(
     rt: &HostRuntime,
     product: Product,
-    journal: &Journal<T>,
+    desk: &Desk<T>,
 ) -> anyhow::Result<()> {
-    let day = journal.book.day();
-    for (class, lots) in (0..12u32).zip(journal.holdings()) {
+    let day = desk.day();
+    for (class, lots) in (0..12u32).zip(desk.holdings()) {
         if lots != 0 {
-            if let Some(here) = journal.book.terms().class_on(day, class) {
+            if let Some(here) = desk.terms().class_on(day, class) {
                 let name = product.class_text(class);
                 let span = months_text(rt.alloc(), here.months)?;
-                let amount = terms::quantity_of(journal.book.terms(), day, class);
+                let amount = terms::quantity_of(desk.terms(), day, class);
                 let unit = product.unit();
                 println!(rt; "    {lots} lot of {name}: {span}, {amount} {unit}.")?;
             }
@@ -36,17 +36,17 @@ fn tell_holdings<T: Terms>(
     Ok(())
 }
 
-// The trade that begins the story, and whether it was made.
+// The trade that begins the story, and the months of its class; none where it was not made.
 fn open_position<T: Terms>(
     rt: &HostRuntime,
     product: Product,
-    journal: &mut Journal<T>,
-) -> anyhow::Result<bool> {
-    let day = journal.book.day();
+    desk: &mut Desk<T>,
+) -> anyhow::Result<Option<Months>> {
+    let day = desk.day();
     let date = day_text(rt.alloc(), day)?;
-    let Some((class, months)) = longest_class(journal.book.terms(), day) else {
+    let Some((class, months)) = longest_class(desk.terms(), day) else {
         println!(rt; "No class is tradable on {date}.")?;
-        return Ok(false);
+        return Ok(None);
     };
     let price = bench::PRICE;
     let trade = Call::Trade {
@@ -56,24 +56,24 @@ fn open_position<T: Terms>(
         lots: 1,
         price,
     };
-    if journal.call(trade)?.is_err() {
-        return Ok(false);
+    if desk.call(trade)?.is_err() {
+        return Ok(None);
     }
     let name = product.class_text(class);
     let span = months_text(rt.alloc(), months)?;
-    let amount = terms::quantity_of(journal.book.terms(), day, class);
+    let amount = terms::quantity_of(desk.terms(), day, class);
     let unit = product.unit();
     println!(rt;
         "On {date} account 0 buys 1 lot of {name} from account 1 at {price} cents: {span}, {amount} {unit} in all."
     )?;
-    Ok(true)
+    Ok(Some(months))
 }
 
-fn mark_all<T: Terms>(journal: &mut Journal<T>) -> anyhow::Result<()> {
-    let day = journal.book.day();
+fn mark_all<T: Terms>(desk: &mut Desk<T>) -> anyhow::Result<()> {
+    let day = desk.day();
     for class in 0..12u32 {
-        if let Some(price) = settlement_price(journal.book.terms(), day, class) {
-            let _ = journal.call(Call::Mark { class, price })?;
+        if let Some(price) = settlement_price(desk.terms(), day, class) {
+            let _ = desk.call(Call::Mark { class, price })?;
         }
     }
     Ok(())
@@ -83,20 +83,19 @@ fn mark_all<T: Terms>(journal: &mut Journal<T>) -> anyhow::Result<()> {
 fn settle<T: Terms>(
     rt: &HostRuntime,
     product: Product,
-    journal: &mut Journal<T>,
+    desk: &mut Desk<T>,
 ) -> anyhow::Result<()> {
-    let class = journal.book.terms().settling();
-    if journal.book.last_price(class).is_none() {
+    let class = desk.terms().settling();
+    if desk.last_price(class).is_none() {
         return Ok(());
     }
-    let held = journal.book.holding(0, class).unwrap_or(0) != 0;
-    let before = journal.cash(0);
+    let held = desk.holdings()[class as usize] != 0;
     let price = bench::FINAL_PRICE;
-    if journal.call(Call::Settle { price, room: 2 })?.is_ok() && held {
-        let date = day_text(rt.alloc(), journal.book.day())?;
+    if desk.call(Call::Settle { price, room: 2 })?.is_ok() && held {
+        let date = day_text(rt.alloc(), desk.day())?;
         let name = product.class_text(class);
-        let paid = journal.cash(0).saturating_sub(before);
-        let cash = journal.cash(0);
+        let paid = desk.paid();
+        let cash = desk.cash(0);
         println!(rt;
             "  On {date} {name} is finally settled at {price} cents: account 0 is paid {paid} cents, and its cash is {cash} cents."
         )?;
@@ -105,16 +104,14 @@ fn settle<T: Terms>(
 }
 
 // The first class that is not tradable and has a last price, in which account 0 holds lots.
-fn delivery_class<T: Terms>(journal: &Journal<T>) -> Option<u32> {
-    let day = journal.book.day();
+fn delivery_class<T: Terms>(desk: &Desk<T>) -> Option<u32> {
+    let day = desk.day();
     (0..12u32)
-        .zip(journal.holdings())
-        .filter(|(class, lots)| *lots != 0 && journal.book.last_price(*class).is_some())
+        .zip(desk.holdings())
+        .filter(|(class, lots)| *lots != 0 && desk.last_price(*class).is_some())
         .map(|(class, _)| class)
         .find(|class| {
-            journal
-                .book
-                .terms()
+            desk.terms()
                 .class_on(day, *class)
                 .is_some_and(|here| !here.tradable)
         })
@@ -124,21 +121,21 @@ fn delivery_class<T: Terms>(journal: &Journal<T>) -> Option<u32> {
 fn reprice<T: Terms>(
     rt: &HostRuntime,
     product: Product,
-    journal: &mut Journal<T>,
+    desk: &mut Desk<T>,
 ) -> anyhow::Result<bool> {
-    let Some(class) = delivery_class(journal) else {
+    let Some(class) = delivery_class(desk) else {
         return Ok(false);
     };
-    let before = journal.book.margins(0).unwrap_or(0);
-    let cash = journal.cash(0);
+    let before = desk.margin();
+    let cash = desk.cash(0);
     let price = bench::PRICE - 400;
-    if journal.call(Call::Reprice { class, price })?.is_err() {
+    if desk.call(Call::Reprice { class, price })?.is_err() {
         return Ok(false);
     }
-    let date = day_text(rt.alloc(), journal.book.day())?;
+    let date = day_text(rt.alloc(), desk.day())?;
     let name = product.class_text(class);
-    let after = journal.book.margins(0).unwrap_or(0);
-    let moved = journal.cash(0).saturating_sub(cash);
+    let after = desk.margin();
+    let moved = desk.cash(0).saturating_sub(cash);
     println!(rt;
         "  On {date} {name} is repriced at {price} cents: the margin of account 0 goes from {before} to {after} cents, and {moved} cents of cash move."
     )?;
@@ -156,18 +153,17 @@ pub struct Quiet {
 fn close<T: Terms>(
     rt: &HostRuntime,
     product: Product,
-    journal: &mut Journal<T>,
+    desk: &mut Desk<T>,
     quiet: Quiet,
     first: bool,
 ) -> anyhow::Result<Quiet> {
-    let date = day_text(rt.alloc(), journal.book.day())?;
-    let before = journal.holdings();
-    let cash = journal.cash(0);
-    if journal.call(Call::Close { room: 2 })?.is_err() {
+    let date = day_text(rt.alloc(), desk.day())?;
+    let before = desk.holdings();
+    if desk.call(Call::Close { room: 2 })?.is_err() {
         return Ok(quiet);
     }
-    let paid = journal.cash(0).saturating_sub(cash);
-    if !first && before == journal.holdings() {
+    let paid = desk.paid();
+    if !first && before == desk.holdings() {
         return Ok(Quiet {
             closes: quiet.closes.saturating_add(1),
             paid: quiet.paid.saturating_add(paid),
@@ -177,43 +173,53 @@ fn close<T: Terms>(
         let Quiet { closes, paid } = quiet;
         println!(rt; "  The next {closes} closes pay account 0 {paid} cents in all.")?;
     }
-    let cash = journal.cash(0);
+    let cash = desk.cash(0);
     println!(rt;
         "  The close of {date} pays account 0 {paid} cents, and its cash is {cash} cents. It holds:"
     )?;
-    tell_holdings(rt, product, journal)?;
+    tell_holdings(rt, product, desk)?;
     Ok(Quiet { closes: 0, paid: 0 })
 }
 
-fn holds_nothing<T: Terms>(journal: &Journal<T>) -> bool {
-    journal.holdings() == [0; 12]
+fn holds_nothing<T: Terms>(desk: &Desk<T>) -> bool {
+    desk.holdings() == [0; 12]
 }
 
-// The whole life of one position.
-pub fn tell<T: Terms>(
+// Day after day, until nothing is held any more.
+fn live<T: Terms>(
     rt: &HostRuntime,
     product: Product,
-    journal: &mut Journal<T>,
+    desk: &mut Desk<T>,
 ) -> anyhow::Result<()> {
-    if !open_position(rt, product, journal)? {
-        return Ok(());
-    }
     let mut quiet = Quiet { closes: 0, paid: 0 };
     let mut repriced = false;
     for turn in 0..2000u32 {
-        settle(rt, product, journal)?;
-        if holds_nothing(journal) {
+        settle(rt, product, desk)?;
+        if holds_nothing(desk) {
             println!(rt; "  All its months are settled, and account 0 holds nothing.")?;
             return Ok(());
         }
         if !repriced {
-            repriced = reprice(rt, product, journal)?;
+            repriced = reprice(rt, product, desk)?;
         }
-        mark_all(journal)?;
-        quiet = close(rt, product, journal, quiet, turn == 0)?;
+        mark_all(desk)?;
+        quiet = close(rt, product, desk, quiet, turn == 0)?;
         if turn == 0 {
-            margin_story::tell(rt, product, journal)?;
+            margin_story::tell(rt, product, desk)?;
         }
     }
     Ok(())
+}
+
+// The whole life of one position, and the months that it was a position in; none where there was no position.
+pub fn tell<T: Terms>(
+    rt: &HostRuntime,
+    product: Product,
+    desk: &mut Desk<T>,
+) -> anyhow::Result<Option<Months>> {
+    let months = open_position(rt, product, desk)?;
+    if months.is_some() {
+        live(rt, product, desk)?;
+    }
+    Ok(months)
 }

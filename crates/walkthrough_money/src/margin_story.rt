@@ -1,30 +1,30 @@
 // The initial margin of the position on its first evening, step by step.
-use crate::journal::Journal;
+use crate::desk::Desk;
 use amounts::{Holding, Step};
 use telling::Product;
 use terms::Terms;
 
 // The first class in which account 0 holds lots, and its last price.
-fn held_class<T: Terms>(journal: &Journal<T>) -> Option<(u32, i32, i32)> {
+fn held_class<T: Terms>(desk: &Desk<T>) -> Option<(u32, i32, i32)> {
     let (class, lots) = (0..12u32)
-        .zip(journal.holdings())
+        .zip(desk.holdings())
         .find(|(_, lots)| *lots != 0)?;
-    let price = journal.book.last_price(class)?;
+    let price = desk.last_price(class)?;
     Some((class, lots, price))
 }
 
 pub fn tell<T: Terms>(
     rt: &HostRuntime,
     product: Product,
-    journal: &Journal<T>,
+    desk: &Desk<T>,
 ) -> anyhow::Result<()> {
-    let Some((class, lots, price)) = held_class(journal) else {
+    let Some((class, lots, price)) = held_class(desk) else {
         return Ok(());
     };
     let name = product.class_text(class);
     let interval = bench::INTERVAL;
     let holding = Holding {
-        quantity: terms::quantity_of(journal.book.terms(), journal.book.day(), class),
+        quantity: terms::quantity_of(desk.terms(), desk.day(), class),
         lots,
     };
     println!(rt;
@@ -35,7 +35,7 @@ pub fn tell<T: Terms>(
         let result = holding.step_result(price, interval, step);
         println!(rt; "    step {step:?}: {result} cents")?;
     }
-    let margin = journal.book.margins(0).unwrap_or(0);
+    let margin = desk.margin();
     println!(rt; "  The least of the ten is the margin of account 0: {margin} cents.")?;
     Ok(())
 }
