@@ -1,4 +1,3 @@
 pub mod Longest
-pub mod Products
 pub mod Wording
 pub mod Years

@@ -1,2 +1,3 @@
 pub mod FirstLine
+pub mod Minus
 pub mod ReadDigits

@@ -4,4 +4,4 @@ mod lines;
 mod numbers;
 
 pub use lines::Reader;
-pub use numbers::digits;
+pub use numbers::{digits, signed};

@@ -1,6 +1,6 @@
 // Numbers that digits write.
 ghost use Rattle.std.specs.Prelude.{◌≡◌, ◌<◌, IfSome};
-ghost use Rattle.text.specs.Numbers.{digits_value};
+ghost use Rattle.text.specs.Numbers.{digits_value, signed_value};
 
 // The number that 1 to 9 digits write.
 pub fn digits(s: &[u8]) -> Option<u32>
@@ -18,4 +18,20 @@ pub fn digits(s: &[u8]) -> Option<u32>
         n = 10 * n + u32::from(*b - b'0');
     }
     Some(n)
+}
+
+// The number that 1 to 9 digits write, with at most one minus in front of them.
+pub fn signed(s: &[u8]) -> Option<i32>
+    ensures { result ≡ signed_value s.now }
+{
+    match s.strip_prefix(b"-") {
+        Some(unsigned) => {
+            let n = digits(unsigned)?;
+            Some(-(n as i32))
+        }
+        None => {
+            let n = digits(s)?;
+            Some(n as i32)
+        }
+    }
 }

@@ -1,8 +1,9 @@
 // One contract through its classes, until each of its months has reached the settling class.
 // The runtime, the product and its terms are passed on together: a struct of three borrows would say no more than their
 // names.
+use products::Product;
 use std::array;
-use telling::{Product, day_text, longest_class, months_text};
+use telling::{day_text, longest_class, months_text};
 use terms::{Months, Terms, TermsOpenDays};
 
 // A contract: the class that is bought on a day, and its months.

@@ -5,7 +5,7 @@ mod margin_story;
 
 use calendars::ListCalendar;
 use power::{Baseload, Power};
-use telling::Product;
+use products::Product;
 use wheat::Wheat;
 
 // The story of power; the calendar comes back.

@@ -1,7 +1,7 @@
 // The initial margin of one lot, step by step.
 use crate::contract_story::bought;
 use amounts::{Holding, Step};
-use telling::Product;
+use products::Product;
 use terms::Terms;
 
 pub fn tell<T: Terms>(

@@ -9,7 +9,7 @@ use crate::desk::Desk;
 use anyhow::anyhow;
 use calendars::ListCalendar;
 use power::{Baseload, Power};
-use telling::Product;
+use products::Product;
 use terms::Terms;
 use wheat::Wheat;
 

@@ -1,7 +1,7 @@
 // The initial margin of the position on its first evening, step by step.
 use crate::desk::Desk;
 use amounts::{Holding, Step};
-use telling::Product;
+use products::Product;
 use terms::Terms;
 
 // The first class in which account 0 holds lots, and its last price.

@@ -1,0 +1,4 @@
+pub mod CallNames
+pub mod Columns
+pub mod Faults
+pub mod Fields
