@@ -11,7 +11,7 @@ abbrev pub call_names : List (List ℕ × CallName)
 call_names = (codes "trade", Trade) ∷ (codes "mark", Mark) ∷ (codes "reprice", Reprice) ∷ (codes "settle", Settle) ∷ (codes "margins", Margins) ∷ (codes "close", Close) ∷ []
 
 -- the call with just this name
-unfoldable pub call_named : List ℕ → Option CallName
+abbrev pub call_named : List ℕ → Option CallName
 call_named name = option_map (λ row. row.1) (find (λ row. bytes_eq row.0 name) call_names)
 
 -- the fields that a call needs

@@ -14,24 +14,20 @@ pub(crate) enum CallName {
     Close,
 }
 
-const NAMES: [(&str, CallName); 6] = [
-    ("trade", CallName::Trade),
-    ("mark", CallName::Mark),
-    ("reprice", CallName::Reprice),
-    ("settle", CallName::Settle),
-    ("margins", CallName::Margins),
-    ("close", CallName::Close),
-];
-
 impl CallName {
     // The call with just this name.
     pub(crate) fn of(name: &[u8]) -> Option<CallName>
         ensures { result ≡ call_named name.now }
     {
-        NAMES
-            .iter()
-            .find(|(known, _)| known.as_bytes() == name)
-            .map(|&(_, call)| call)
+        match name {
+            b"trade" => Some(CallName::Trade),
+            b"mark" => Some(CallName::Mark),
+            b"reprice" => Some(CallName::Reprice),
+            b"settle" => Some(CallName::Settle),
+            b"margins" => Some(CallName::Margins),
+            b"close" => Some(CallName::Close),
+            _ => None,
+        }
     }
 
     // The fields that the call needs.

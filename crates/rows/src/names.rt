@@ -12,32 +12,31 @@ pub struct Names {
 }
 
 impl Names {
-    ghost use Rattle.std.specs.Prelude.{IfOk, map, length};
-    ghost use Rattle.std.specs.Result.{result_map};
-    ghost use Rattle.rows.specs.Columns.{names_of, field_in, column_name};
+    ghost use Rattle.std.specs.Prelude.{true, false, Ok, Err, IfOk, MatchOption, MatchResult, map};
+    ghost use Rattle.rows.specs.Columns.{names_fit, places_of, names_of, field_in, HoldsItsName};
     ghost use Rattle.rows.specs.Fields.{fields};
-    ghost use Rattle.rows.specs.declared.column.Column.{Column};
+
+    // Where the columns stand in a line, if it is a names line.
+    fn among(line: &[u8]) -> Option<Names>
+        ensures { MatchOption result (names_fit line.now ≡ false) (λ n. (names_fit line.now ≡ true) × (n.places ≡ places_of line.now)) }
+    {
+        let row = Row::of(line)?;
+        let call = row.place_of(Column::Call)?;
+        let buyer = row.place_of(Column::Buyer)?;
+        let seller = row.place_of(Column::Seller)?;
+        let class = row.place_of(Column::Class)?;
+        let lots = row.place_of(Column::Lots)?;
+        let price = row.place_of(Column::Price)?;
+        let places = [call, buyer, seller, class, lots, price];
+        Some(Names { places })
+    }
 
     // The places that a names line gives the columns.
     pub fn of(line: &[u8]) -> Result<Names, SheetFault>
-        ensures places { result_map (λ n. n.places) result ≡ names_of line.now }
-        ensures named { IfOk result (λ n. (column : Column) → field_in n.places (fields line.now) column ≡ column_name column) }
+        ensures places { MatchResult result (λ n. names_of line.now ≡ Ok n.places) (λ fault. names_of line.now ≡ Err fault) }
+        ensures named { IfOk result (λ n. HoldsItsName n.places (fields line.now)) }
     {
-        let row = Row::of(line).ok_or(SheetFault::ColumnNames)?;
-        let place = |column: Column| {
-            row.place_of(column.name().as_bytes())
-                .ok_or(SheetFault::ColumnNames)
-        };
-        Ok(Names {
-            places: [
-                place(Column::Call)?,
-                place(Column::Buyer)?,
-                place(Column::Seller)?,
-                place(Column::Class)?,
-                place(Column::Lots)?,
-                place(Column::Price)?,
-            ],
-        })
+        Names::among(line).ok_or(SheetFault::ColumnNames)
     }
 
     // The field of a column in a row.
