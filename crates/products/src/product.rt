@@ -9,7 +9,7 @@ pub enum Product {
     Wheat,
 }
 
-// No product has more classes.
+// No product has more classes than this.
 const CLASSES: u32 = 12;
 
 impl Product {
@@ -29,6 +29,7 @@ impl Product {
     }
 
     // Whether a class has just this name.
+    #[tactic(auto, unfolding(crate::specs::Products::is_called))]
     fn is_called(self, name: &[u8], class: u32) -> bool
         ensures { result ≡ is_called self name.now class }
     {

@@ -1,5 +1,5 @@
 -- What a names line tells of the places of the columns. Assumes nothing.
-use Rattle.std.proofs.Common.{◌≡◌, ◌≢◌, ◌⊎◌, ℕ, ◌<◌, Bool, true, false, cond, eqb, ltb, ◌&&◌, List, [], ◌∷◌, length, map, Some, None, Option, is_some, bytes_eq, slice_index, slice_index_or, unwrap_or, refl, sym, ap, ◌∙◌, ⊎_elim, arith}
+use Rattle.std.proofs.Common.{◌≡◌, ◌≢◌, ℕ, Bool, true, false, ltb, ◌&&◌, List, [], ◌∷◌, length, map, Some, None, Option, is_some, bytes_eq, slice_index, slice_index_or, unwrap_or, refl, sym, ap, ⊎_elim}
 use Rattle.std.proofs.lemmas.Bool.{ltb-true, ne_eqb, and_left, and_right, and_parts, cases_Bool}
 use Rattle.std.proofs.lemmas.List.Sums.{passes_at_first}
 use Rattle.std.proofs.lemmas.Option.{cond_some}

@@ -1,6 +1,6 @@
 -- The calls of a sheet by name, and the fields that each needs. Assumes nothing.
-use Rattle.std.specs.Prelude.{ℕ, Bool, List, [], ◌∷◌, ◌==◌, Option, codes, bytes_eq, find, option_map}
-use Rattle.std.specs.List.{list_any}
+use Rattle.std.specs.Prelude.{ℕ, Bool, List, [], ◌∷◌, ◌==◌, Option, cond, length, codes, bytes_eq, find, option_map, nat_lt}
+use Rattle.std.specs.List.{list_any, list_all}
 use Rattle.rows.specs.Columns.{column_place}
 use Rattle.rows.specs.declared.call_name.CallName.{CallName}
 use Rattle.rows.specs.declared.call_name.CallName.TheVariants.{Trade, Mark, Reprice, Settle, Margins, Close}
@@ -25,3 +25,15 @@ needed Close = []
 
 abbrev pub needs : CallName → Column → Bool
 needs call column = list_any (λ other. column_place other == column_place column) (needed call)
+
+-- the columns whose fields a call may need
+abbrev pub fillable : List Column
+fillable = Buyer ∷ Seller ∷ Class ∷ Lots ∷ Price ∷ []
+
+-- whether a field is filled where the call needs it, and empty elsewhere
+abbrev pub fits : CallName → (Column → List ℕ) → Column → Bool
+fits call field column = cond (needs call column) (nat_lt 0 (length (field column))) (length (field column) == 0)
+
+-- whether just the needed fields are filled
+abbrev pub just_needed : CallName → (Column → List ℕ) → Bool
+just_needed call field = list_all (fits call field) fillable

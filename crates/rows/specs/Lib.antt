@@ -2,3 +2,5 @@ pub mod CallNames
 pub mod Columns
 pub mod Faults
 pub mod Fields
+pub mod Requests
+pub mod Values

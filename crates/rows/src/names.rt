@@ -5,7 +5,7 @@ use crate::column::Column;
 use crate::fault::SheetFault;
 use crate::row::Row;
 
-#[derive(Clone, Copy, Debug)]
+#[derive(Clone, Copy, PartialEq, Eq, Debug)]
 pub struct Names {
     places: [usize; 6],
     ghost known: { (k : ℕ) → slice_index places k < 6 },

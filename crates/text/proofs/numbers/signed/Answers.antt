@@ -1,4 +1,4 @@
-use Rattle.std.proofs.Common.{◌≡◌, ◌<◌, pos, ◌-ℤ◌, neg_ℤ, to_z, of_z, w32, Some, None, sym, ◌∙◌, ap, arith}
+use Rattle.std.proofs.Common.{◌<◌, Some, None, sym, ◌∙◌, ap, arith}
 use Rattle.std.proofs.lemmas.Int.{ints}
 use Rattle.text.specs.Numbers.{digits_value}
 use Rattle.text.proofs.Minus.{with_minus, without_minus}
@@ -18,12 +18,10 @@ returns-in_ok-n-in-Some c =
     let h = c.in-Some.ensures.cases in
     let n = c.in_ok-n-in-Some.n in
     let bound : n < 1000000000 = c.in_ok-n-in-Some.ensures.bound in
-    let negative : to_z w32 (of_z w32 (pos 0 -ℤ to_z w32 n)) ≡ neg_ℤ (pos n) = omega (arith, ints) in
-    ap Some negative ∙ sym (with_minus c.args.s.now h.0 (Some n) (c.in_ok-n-in-Some.ensures.value ∙ ap digits_value h.1))
+    rw (with_minus c.args.s.now h.0 (Some n) (c.in_ok-n-in-Some.ensures.value ∙ ap digits_value h.1)) (ap Some (omega (arith, ints)))
 
 pub returns-in_ok-n-in-None : goal.returns-in_ok-n-in-None
 returns-in_ok-n-in-None c =
     let n = c.in_ok-n-in-None.n in
     let bound : n < 1000000000 = c.in_ok-n-in-None.ensures.bound in
-    let same : to_z w32 n ≡ pos n = omega (arith, ints) in
-    ap Some same ∙ sym (without_minus c.args.s.now c.in-None.ensures.cases (Some n) c.in_ok-n-in-None.ensures.value)
+    rw (without_minus c.args.s.now c.in-None.ensures.cases (Some n) c.in_ok-n-in-None.ensures.value) (ap Some (omega (arith, ints)))

@@ -1,4 +1,3 @@
-use Rattle.std.proofs.Common.{refl}
 use Rattle.rows.proofs.Naming.{wrong_count, lacks, has_all}
 use Rattle.rows.specs.declared.column.Column.TheVariants.{Call, Buyer, Seller, Class, Lots, Price}
 use Rattle.rows.proofs.names.Names.among.Goals as goal

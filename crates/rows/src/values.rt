@@ -1,0 +1,71 @@
+// The fields of a line of values, by column.
+ghost use Rattle.std.specs.Prelude.{◌≡◌, ◌<◌, IfOk, ok_or};
+ghost use Rattle.rows.specs.CallNames.{fits, just_needed};
+ghost use Rattle.rows.specs.Requests.{number_in, price_in, class_in};
+ghost use Rattle.rows.specs.Values.{value};
+
+use crate::call_name::CallName;
+use crate::column::Column;
+use crate::fault::SheetFault;
+use crate::names::Names;
+use crate::row::Row;
+use products::Product;
+use text::{digits, signed};
+
+#[derive(Clone, Copy)]
+pub(crate) struct Values<'a> {
+    pub(crate) names: Names,
+    pub(crate) row: Row<'a>,
+}
+
+// The columns whose fields a call may need.
+const FILLABLE: [Column; 5] = [
+    Column::Buyer,
+    Column::Seller,
+    Column::Class,
+    Column::Lots,
+    Column::Price,
+];
+
+impl<'a> Values<'a> {
+    pub(crate) fn field(&self, column: Column) -> &'a [u8]
+        ensures { result.now ≡ value self.now column }
+    {
+        self.names.field(&self.row, column)
+    }
+
+    // Whether a field is filled where the call needs it, and empty elsewhere.
+    fn fits(&self, call: CallName, column: Column) -> bool
+        ensures { result ≡ fits call (value self.now) column }
+    {
+        call.needs(column) != self.field(column).is_empty()
+    }
+
+    // Whether just the fields that the call needs are filled.
+    pub(crate) fn has_just_needed(&self, call: CallName) -> bool
+        ensures { result ≡ just_needed call (value self.now) }
+    {
+        FILLABLE.iter().all(|&column| self.fits(call, column))
+    }
+
+    pub(crate) fn number(&self, column: Column) -> Result<u32, SheetFault>
+        ensures number { result ≡ number_in (value self.now column) }
+        ensures bound { IfOk result (λ n. n < 1000000000) }
+    {
+        digits(self.field(column)).ok_or(SheetFault::NotANumber)
+    }
+
+    pub(crate) fn price(&self) -> Result<i32, SheetFault>
+        ensures { result ≡ price_in (value self.now Column.Price) }
+    {
+        signed(self.field(Column::Price)).ok_or(SheetFault::NotANumber)
+    }
+
+    pub(crate) fn class(&self, product: Product) -> Result<u32, SheetFault>
+        ensures { result ≡ class_in product (value self.now Column.Class) }
+    {
+        product
+            .class_of(self.field(Column::Class))
+            .ok_or(SheetFault::UnknownClass)
+    }
+}

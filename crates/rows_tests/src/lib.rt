@@ -1,0 +1,4 @@
+#![tactic(auto)]
+// Examples for the lines of a sheet.
+#[cfg(test)]
+mod tests;
