@@ -7,6 +7,7 @@ use Rattle.rows.specs.declared.call_name.CallName.TheVariants.{Trade, Mark, Repr
 use Rattle.rows.specs.declared.column.Column.{Column}
 use Rattle.rows.specs.declared.column.Column.TheVariants.{Buyer, Seller, Class, Lots, Price}
 
+-- the calls by name
 abbrev pub call_names : List (List ℕ × CallName)
 call_names = (codes "trade", Trade) ∷ (codes "mark", Mark) ∷ (codes "reprice", Reprice) ∷ (codes "settle", Settle) ∷ (codes "margins", Margins) ∷ (codes "close", Close) ∷ []
 
@@ -23,6 +24,7 @@ needed Settle = Price ∷ []
 needed Margins = Buyer ∷ []
 needed Close = []
 
+-- whether a call needs the field of a column
 abbrev pub needs : CallName → Column → Bool
 needs call column = list_any (λ other. column_place other == column_place column) (needed call)
 

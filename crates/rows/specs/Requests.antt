@@ -27,15 +27,19 @@ abbrev pub ask : Bool → SheetFault → Result (Unit {0}) SheetFault
 ask true fault = Ok tt
 ask false fault = Err fault
 
+-- a number without a minus
 abbrev pub number_in : List ℕ → Result ℕ SheetFault
 number_in field = ok_or (digits_value field) NotANumber
 
+-- a price, which may have a minus
 abbrev pub price_in : List ℕ → Result ℤ SheetFault
 price_in field = ok_or (signed_value field) NotANumber
 
+-- a class of the product
 abbrev pub class_in : Product → List ℕ → Result ℕ SheetFault
 class_in product field = ok_or (class_of product field) UnknownClass
 
+-- the call of a line
 abbrev pub call_in : List ℕ → Result CallName SheetFault
 call_in field = ok_or (call_named field) UnknownCall
 

@@ -49,6 +49,7 @@ impl CallName {
         }
     }
 
+    // Whether the call needs the field of a column.
     pub(crate) fn needs(self, column: Column) -> bool
         ensures { result ≡ needs self column }
     {

@@ -28,6 +28,7 @@ const FILLABLE: [Column; 5] = [
 ];
 
 impl<'a> Values<'a> {
+    // The field of a column.
     pub(crate) fn field(&self, column: Column) -> &'a [u8]
         ensures { result.now ≡ value self.now column }
     {
@@ -48,6 +49,7 @@ impl<'a> Values<'a> {
         FILLABLE.iter().all(|&column| self.fits(call, column))
     }
 
+    // The number of a field without a minus.
     pub(crate) fn number(&self, column: Column) -> Result<u32, SheetFault>
         ensures number { result ≡ number_in (value self.now column) }
         ensures bound { IfOk result (λ n. n < 1000000000) }
@@ -55,12 +57,14 @@ impl<'a> Values<'a> {
         digits(self.field(column)).ok_or(SheetFault::NotANumber)
     }
 
+    // The price, which may have a minus.
     pub(crate) fn price(&self) -> Result<i32, SheetFault>
         ensures { result ≡ price_in (value self.now Column.Price) }
     {
         signed(self.field(Column::Price)).ok_or(SheetFault::NotANumber)
     }
 
+    // The class, among those of the product.
     pub(crate) fn class(&self, product: Product) -> Result<u32, SheetFault>
         ensures { result ≡ class_in product (value self.now Column.Class) }
     {
