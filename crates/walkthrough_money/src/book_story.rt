@@ -4,14 +4,9 @@
 use crate::desk::Desk;
 use crate::margin_story;
 use ledger::Call;
-<<<<<<< HEAD
-use telling::{Product, day_text, longest_class, months_text};
-use terms::{Months, Terms};
-=======
 use products::Product;
 use telling::{day_text, longest_class, months_text};
-use terms::Terms;
->>>>>>> 8c23cd0 (A crate for the products by name, numbers with a minus, and the start of rows)
+use terms::{Months, Terms};
 
 // The settlement price of a class on a day: dearer for later months of the year, and moving from day to day.
 fn settlement_price<T: Terms>(terms: &T, day: u32, class: u32) -> Option<i32> {

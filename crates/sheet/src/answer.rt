@@ -1,0 +1,31 @@
+// One line of the answers.
+ghost use Rattle.std.specs.Prelude.{◌≡◌, Some};
+ghost use Rattle.sheet.specs.Answers.{answer_text};
+
+use ledger::Payment;
+use std::fmt;
+
+// The number of the line that is answered, the number of the question answered no, or 0, and an account with its cents,
+// where the answer tells one.
+#[derive(Clone, Copy, PartialEq, Eq, Debug)]
+pub struct Answer {
+    pub line: usize,
+    pub refusal: u8,
+    pub amount: Option<Payment>,
+}
+
+impl fmt::Display for Answer {
+    ghost output = { λ answer. Some (answer_text answer) };
+
+    fn fmt<W: fmt::Write>(&self, f: &mut fmt::Formatter<W>) -> fmt::Result {
+        let Answer {
+            line,
+            refusal,
+            amount,
+        } = *self;
+        match amount {
+            Some(Payment { account, cents }) => write!(f, "{line},{refusal},{account},{cents}\n"),
+            None => write!(f, "{line},{refusal},,\n"),
+        }
+    }
+}

@@ -1,0 +1,7 @@
+#![tactic(auto)]
+// A sheet's lines, called on a book one after the other, and the lines that answer them.
+mod answer;
+mod cause;
+
+pub use answer::Answer;
+pub use cause::{Cause, Layer};
