@@ -1,6 +1,6 @@
 -- One line of the answers, in bytes. Assumes nothing.
 use Rattle.std.specs.Prelude.{ℕ, List, ◌++◌, Some, None, Option, codes, decimal}
-use Rattle.core.specs.Fmt.{signed_decimal}
+use Rattle.std.specs.Fmt.{signed_decimal}
 use Rattle.ledger.specs.declared.payment.Payment.{Payment}
 use Rattle.sheet.specs.declared.answer.Answer.{Answer}
 

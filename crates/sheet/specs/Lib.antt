@@ -1,2 +1,4 @@
 pub mod Answers
 pub mod Causes
+pub mod Done
+pub mod Replies

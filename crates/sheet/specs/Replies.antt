@@ -1,0 +1,58 @@
+-- What a line of values is answered on a book's tables, and what it leaves. Assumes nothing.
+use Rattle.std.specs.Prelude.{ℕ, List, [], ◌∷◌, ◌++◌, ℤ, Some, None, Ok, Err, Option, Result, map}
+use Rattle.book.specs.Tables.{view, after_tables}
+use Rattle.book.specs.declared.tables.Tables.{Tables}
+use Rattle.ledger.specs.Calls.{refusal, settle_pay, close_pay}
+use Rattle.ledger.specs.Questions.{margins_refusal, margins, payment_lines}
+use Rattle.ledger.specs.declared.call.Call.{Call}
+use Rattle.ledger.specs.declared.call.Call.TheVariants.{Trade, Mark, Reprice, Settle, Close}
+use Rattle.ledger.specs.declared.entry.Entry.{Entry}
+use Rattle.ledger.specs.declared.fault.Fault.{Fault}
+use Rattle.ledger.specs.declared.payment.Payment.{Payment}
+use Rattle.rows.specs.declared.fault.SheetFault.{SheetFault}
+use Rattle.rows.specs.declared.request.Request.{Request}
+use Rattle.rows.specs.declared.request.Request.TheVariants.{Book as OfBook, Margins as OfMargins}
+use Rattle.sheet.specs.Answers.{answer_text}
+use Rattle.sheet.specs.Causes.{cause_number}
+use Rattle.sheet.specs.declared.cause.Cause.{Cause}
+use Rattle.sheet.specs.declared.cause.Cause.TheVariants.{Sheet, Book}
+use Rattle.std.specs.List.{flat_map}
+use Rattle.terms.specs.Meaning.{Meaning}
+
+-- an answer of the book, with the amounts that are told where it accepts
+abbrev pub told : Option Fault → List Payment → Result (List Payment) Cause
+told None amounts = Ok amounts
+told (Some fault) amounts = Err (Book fault)
+
+module _ (w : Meaning) (t : Tables) where
+  -- what an accepted call tells: for a settle and a close what each account is paid, in account order
+  abbrev pub amounts : Call → List Payment
+  amounts (Trade buyer seller c n p) = []
+  amounts (Mark c p) = []
+  amounts (Reprice c p) = []
+  amounts (Settle f room) = payment_lines t.count (settle_pay w (view t) f)
+  amounts (Close room) = payment_lines t.count (close_pay w (view t))
+
+  -- the reply to a line of values, which asks something or is refused by the sheet
+  abbrev pub reply : Result Request SheetFault → Result (List Payment) Cause
+  reply (Err fault) = Err (Sheet fault)
+  reply (Ok (OfBook call)) = told (refusal w (view t) call) (amounts call)
+  reply (Ok (OfMargins a)) = told (margins_refusal w (view t) a) (record { account = a; cents = margins w t.lines (view t) a } ∷ [])
+
+  -- the tables afterwards
+  abbrev pub left : Result Request SheetFault → Tables
+  left (Err fault) = t
+  left (Ok (OfBook call)) = after_tables w t call
+  left (Ok (OfMargins a)) = t
+
+  -- what the line adds to the history of the book
+  abbrev pub noted : Result Request SheetFault → List Entry
+  noted (Err fault) = []
+  noted (Ok (OfBook call)) = record { call = call; answer = refusal w (view t) call } ∷ []
+  noted (Ok (OfMargins a)) = []
+
+-- the lines that tell a reply to line n
+abbrev pub reply_text : ℕ → Result (List Payment) Cause → List ℕ
+reply_text n (Err cause) = answer_text (record { line = n; refusal = cause_number cause; amount = None })
+reply_text n (Ok []) = answer_text (record { line = n; refusal = 0; amount = None })
+reply_text n (Ok (p ∷ ps)) = flat_map (λ p. answer_text (record { line = n; refusal = 0; amount = Some p })) (p ∷ ps)
