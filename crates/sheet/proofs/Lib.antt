@@ -1,1 +1,2 @@
 pub mod Replying
+pub mod Rows

@@ -1,6 +1,6 @@
 -- What a call of the book tells. Assumes nothing.
-use Rattle.std.proofs.Common.{◌≡◌, ℕ, ◌<◌, List, [], ◌∷◌, ◌++◌, length, take, set, map, drop, ℤ, Some, None, Ok, Err, Option, Result, MatchResult, refl, sym, ap, ◌∙◌, subst, arith}
-use Rattle.book.specs.Tables.{view, after_tables}
+use Rattle.std.proofs.Common.{◌≡◌, ℕ, ◌<◌, List, [], ◌∷◌, length, take, set, drop, ℤ, Some, None, Ok, Err, Option, Result, MatchResult, refl, sym, ap, ◌∙◌, arith}
+use Rattle.book.specs.Tables.{view}
 use Rattle.book.specs.declared.tables.Tables.{Tables}
 use Rattle.ledger.specs.Calls.{refusal, settle_pay, close_pay}
 use Rattle.ledger.specs.Questions.{list_after, payment_lines, written}

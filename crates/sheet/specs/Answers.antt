@@ -2,7 +2,16 @@
 use Rattle.std.specs.Prelude.{ℕ, List, ◌++◌, Some, None, Option, codes, decimal}
 use Rattle.std.specs.Fmt.{signed_decimal}
 use Rattle.ledger.specs.declared.payment.Payment.{Payment}
+use Rattle.sheet.specs.Causes.{cause_number}
 use Rattle.sheet.specs.declared.answer.Answer.{Answer}
+use Rattle.sheet.specs.declared.cause.LineFault.{LineFault}
+
+-- the answer to a line that is refused, and to one that is accepted
+abbrev pub refused : LineFault → Answer
+refused fault = record { line = fault.line; refusal = cause_number fault.cause; amount = None }
+
+abbrev pub accepted : ℕ → Option Payment → Answer
+accepted line amount = record { line = line; refusal = 0; amount = amount }
 
 -- the account and the cents, both blank where there are none
 abbrev pub amount_text : Option Payment → List ℕ

@@ -2,3 +2,4 @@ pub mod Answers
 pub mod Causes
 pub mod Done
 pub mod Replies
+pub mod Sheets

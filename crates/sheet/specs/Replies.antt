@@ -1,5 +1,5 @@
 -- What a line of values is answered on a book's tables, and what it leaves. Assumes nothing.
-use Rattle.std.specs.Prelude.{ℕ, List, [], ◌∷◌, ◌++◌, ℤ, Some, None, Ok, Err, Option, Result, map}
+use Rattle.std.specs.Prelude.{ℕ, List, [], ◌∷◌, Some, None, Ok, Err, Option, Result}
 use Rattle.book.specs.Tables.{view, after_tables}
 use Rattle.book.specs.declared.tables.Tables.{Tables}
 use Rattle.ledger.specs.Calls.{refusal, settle_pay, close_pay}
@@ -12,8 +12,7 @@ use Rattle.ledger.specs.declared.payment.Payment.{Payment}
 use Rattle.rows.specs.declared.fault.SheetFault.{SheetFault}
 use Rattle.rows.specs.declared.request.Request.{Request}
 use Rattle.rows.specs.declared.request.Request.TheVariants.{Book as OfBook, Margins as OfMargins}
-use Rattle.sheet.specs.Answers.{answer_text}
-use Rattle.sheet.specs.Causes.{cause_number}
+use Rattle.sheet.specs.Answers.{answer_text, refused, accepted}
 use Rattle.sheet.specs.declared.cause.Cause.{Cause}
 use Rattle.sheet.specs.declared.cause.Cause.TheVariants.{Sheet, Book}
 use Rattle.std.specs.List.{flat_map}
@@ -53,6 +52,6 @@ module _ (w : Meaning) (t : Tables) where
 
 -- the lines that tell a reply to line n
 abbrev pub reply_text : ℕ → Result (List Payment) Cause → List ℕ
-reply_text n (Err cause) = answer_text (record { line = n; refusal = cause_number cause; amount = None })
-reply_text n (Ok []) = answer_text (record { line = n; refusal = 0; amount = None })
-reply_text n (Ok (p ∷ ps)) = flat_map (λ p. answer_text (record { line = n; refusal = 0; amount = Some p })) (p ∷ ps)
+reply_text n (Err cause) = answer_text (refused (record { line = n; cause = cause }))
+reply_text n (Ok []) = answer_text (accepted n None)
+reply_text n (Ok (p ∷ ps)) = flat_map (λ p. answer_text (accepted n (Some p))) (p ∷ ps)

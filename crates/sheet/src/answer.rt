@@ -1,7 +1,8 @@
 // One line of the answers.
 ghost use Rattle.std.specs.Prelude.{◌≡◌, Some};
-ghost use Rattle.sheet.specs.Answers.{answer_text};
+ghost use Rattle.sheet.specs.Answers.{answer_text, refused, accepted};
 
+use crate::cause::LineFault;
 use ledger::Payment;
 use std::fmt;
 
@@ -12,6 +13,30 @@ pub struct Answer {
     pub line: usize,
     pub refusal: u8,
     pub amount: Option<Payment>,
+}
+
+impl Answer {
+    // The answer to a line that is refused.
+    pub fn refused(fault: LineFault) -> Answer
+        ensures { result ≡ refused fault }
+    {
+        Answer {
+            line: fault.line,
+            refusal: fault.cause.number(),
+            amount: None,
+        }
+    }
+
+    // The answer to a line that is accepted.
+    pub fn accepted(line: usize, amount: Option<Payment>) -> Answer
+        ensures { result ≡ accepted line amount }
+    {
+        Answer {
+            line,
+            refusal: 0,
+            amount,
+        }
+    }
 }
 
 impl fmt::Display for Answer {

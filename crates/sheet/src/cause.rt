@@ -36,7 +36,21 @@ impl From<Fault> for Cause {
     }
 }
 
+// A fault keeps its number and its layer, which are those of its cause, and its line.
+#[derive(Clone, Copy, PartialEq, Eq, Debug)]
+pub struct LineFault {
+    pub line: usize,
+    pub cause: Cause,
+}
+
 impl Cause {
+    // The fault of a line.
+    pub fn at(self, line: usize) -> LineFault
+        ensures { result ≡ record { line = line; cause = self } }
+    {
+        LineFault { line, cause: self }
+    }
+
     // The number of the question.
     pub fn number(self) -> u8
         ensures { result ≡ cause_number self }

@@ -3,6 +3,10 @@
 mod answer;
 mod cause;
 mod desk;
+mod opening;
+mod sheet;
+mod writing;
 
 pub use answer::Answer;
-pub use cause::{Cause, Layer};
+pub use cause::{Cause, Layer, LineFault};
+pub use sheet::{Answered, answer_sheet};

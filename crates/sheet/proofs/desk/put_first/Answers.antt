@@ -1,4 +1,4 @@
-use Rattle.std.proofs.Common.{◌≡◌, ◌<◌, List, [], ◌∷◌, length, take, set, refl, arith}
+use Rattle.std.proofs.Common.{arith}
 use Rattle.sheet.proofs.Replying.{first_set}
 use Rattle.sheet.proofs.desk.put_first.Goals as goal
 

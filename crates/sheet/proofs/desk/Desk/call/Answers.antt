@@ -1,7 +1,6 @@
 use Rattle.std.proofs.Common.{length, ap, ◌∙◌, take}
 use Rattle.book.specs.Tables.{view}
 use Rattle.ledger.specs.Calls.{refusal}
-use Rattle.ledger.specs.Questions.{list_after}
 use Rattle.sheet.specs.Replies.{amounts}
 use Rattle.sheet.proofs.Replying.{replied, told-at-head}
 use Rattle.sheet.proofs.desk.Desk.call.Goals as goal

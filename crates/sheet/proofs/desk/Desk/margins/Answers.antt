@@ -1,4 +1,4 @@
-use Rattle.std.proofs.Common.{◌≡◌, Ok, take, rules, refl, sym, ap, ◌∙◌, arith, to_z, of_z}
+use Rattle.std.proofs.Common.{◌≡◌, Ok, take, rules, refl, sym, ap, ◌∙◌, to_z, of_z}
 use mir.Syntax.{w128}
 use Rattle.book.specs.Replies.{reply}
 use Rattle.book.specs.Tables.{view}

@@ -1,0 +1,43 @@
+// The head of a sheet: its length and its names line.
+ghost use Rattle.std.specs.Prelude.{◌≡◌, Ok, Err, MatchResult};
+ghost use Rattle.sheet.specs.Sheets.{opened};
+ghost use Rattle.sheet.specs.declared.cause.Cause.TheVariants.{Sheet};
+ghost use Rattle.text.specs.Lines.{lines_from};
+
+use crate::cause::{Cause, LineFault};
+use rows::{Names, SheetFault};
+use text::Reader;
+
+// How many bytes a sheet may have.
+const MOST_BYTES: usize = 65_536;
+
+// Where the columns stand, and the reader behind the names line.
+#[derive(Drop)]
+pub(crate) struct Head<'a> {
+    pub(crate) names: Names,
+    pub(crate) rows: Reader<'a>,
+}
+
+// A fault of the sheet in a line.
+fn fault_at(fault: SheetFault, line: usize) -> LineFault
+    ensures { result ≡ record { line = line; cause = Sheet fault } }
+{
+    Cause::from(fault).at(line)
+}
+
+// The head of a sheet, or why it is refused.
+pub(crate) fn opened(sheet: &[u8]) -> Result<Head<'_>, LineFault>
+    ensures { MatchResult result (λ o. (opened sheet.now ≡ Ok (o.names.places, lines_from o.rows.at o.rows.bytes.now)) × (o.rows.line ≡ 1)) (λ fault. opened sheet.now ≡ Err fault) }
+{
+    if sheet.len() > MOST_BYTES {
+        return Err(fault_at(SheetFault::TooLong, 0));
+    }
+    let mut rows = Reader::new(sheet);
+    let Some(line) = rows.next_line() else {
+        return Err(fault_at(SheetFault::ColumnNames, 1));
+    };
+    match Names::of(line) {
+        Ok(names) => Ok(Head { names, rows }),
+        Err(fault) => Err(fault_at(fault, 1)),
+    }
+}
