@@ -4,6 +4,9 @@
 // The month in its year, from 0, in which the bench's stories begin: March.
 pub const START_IN_YEAR: u32 = 2;
 
+// The month in which the bench's book begins: March 2008.
+pub const START_MONTH: u32 = 98;
+
 // Two accounts, 0 and 1.
 pub const ACCOUNTS: u32 = 2;
 

@@ -1,0 +1,36 @@
+// The answers to a day sheet.
+ghost use Rattle.std.specs.Prelude.{◌≡◌, IfOk, string_bytes};
+ghost use Rattle.day_sheet.specs.DaySheet.{bench_terms, day_sheet_text, day_sheet_tables, day_sheet_entries};
+ghost use Rattle.journal.specs.Lived.{Lived};
+
+use crate::bench_book;
+use calendars::Weekdays;
+use journal::Journal;
+use power::{Baseload, Power};
+use products::Product;
+use sheet::{Answered, answer_sheet};
+use std::alloc::{AllocError, Global};
+
+// How much of an input is to be read: one byte more than a sheet may have, so that a longer one is known.
+pub const MOST_READ: u64 = 65_537;
+
+// The answers to a sheet that is called on the bench's book: Baseload on the weekday calendar, two accounts, from March 2008.
+pub fn answer(
+    heap: Global,
+    sheet: &[u8],
+) -> Result<Answered<Power<Weekdays, Baseload>>, AllocError>
+    ensures text { IfOk result (λ a. string_bytes a.text ≡ day_sheet_text sheet.now) }
+    ensures book { IfOk result (λ a. a.journal.book.tables ≡ day_sheet_tables sheet.now) }
+    ensures law { IfOk result (λ a. ∥ Lived bench_terms 98 (day_sheet_entries sheet.now) (day_sheet_tables sheet.now) ∥₁) }
+{
+    let terms = Power {
+        calendar: Weekdays,
+        profile: Baseload,
+    };
+    let lines = bench_book::lines();
+    match Journal::open(heap, terms, bench::START_MONTH, bench::ACCOUNTS, &lines) {
+        Ok(journal) => answer_sheet(heap, Product::Power, journal, sheet),
+        // The bench's book can be made; the check is not asked to see it.
+        Err(_) => Err(AllocError),
+    }
+}
