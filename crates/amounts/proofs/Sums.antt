@@ -1,13 +1,10 @@
 -- Sums of whole numbers below a bound. Assumes nothing.
-use Rattle.std.proofs.Common.{◌≡◌, ℕ, zero, suc, ◌+◌, ◌<◌, ◌≤◌, Bool, true, false, eqb, ℤ, pos, ◌+ℤ◌, ◌-ℤ◌, ◌*ℤ◌, neg_ℤ, sym, refl, ap, ◌∙◌, ⊎_elim, add-one, arith}
+use Rattle.std.proofs.Common.{◌≡◌, ℕ, zero, suc, ◌<◌, ◌≤◌, Bool, true, false, eqb, ℤ, pos, ◌+ℤ◌, ◌-ℤ◌, ◌*ℤ◌, neg_ℤ, sym, refl, ap, ◌∙◌, ⊎_elim, arith}
 use lib.IntN.{*ℤ-zero, zero-*ℤ}
 use Rattle.std.proofs.lemmas.Int.{ints}
 use Rattle.std.proofs.lemmas.Bool.{cases_eq, eq-eqb, ne_eqb, cond-true, cond-false}
 use Rattle.amounts.specs.SumsOfWhole.{sum_z, if_z}
 use Rattle.amounts.proofs.Ring.{*ℤ-left-distrib, *ℤ-right-distrib}
-
-pub sum_more : (n : ℕ) (f : ℕ → ℤ) → sum_z (n + 1) f ≡ sum_z n f +ℤ f n
-sum_more n f = rw add-one
 
 pub sum_same : (n : ℕ) (f g : ℕ → ℤ) → ((k : ℕ) → k < n → f k ≡ g k) → sum_z n f ≡ sum_z n g
 sum_same zero f g h = refl
@@ -52,10 +49,6 @@ if-zero false = refl
 pub if-add : (b : Bool) (x y : ℤ) → if_z b (x +ℤ y) ≡ if_z b x +ℤ if_z b y
 if-add true x y = refl
 if-add false x y = refl
-
-pub if_neg : (b : Bool) (x : ℤ) → if_z b (neg_ℤ x) ≡ neg_ℤ (if_z b x)
-if_neg true x = refl
-if_neg false x = refl
 
 pub if-times : (b : Bool) (x y : ℤ) → if_z b x *ℤ y ≡ if_z b (x *ℤ y)
 if-times true x y = refl

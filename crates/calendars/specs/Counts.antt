@@ -8,10 +8,6 @@ use Rattle.calendars.specs.Sets.{before}
 use Rattle.calendars.specs.Calendars.{weekdays}
 use Rattle.calendars.specs.Walks.{NoneIn}
 
-pub one-most : (b : Bool) → cond b 1 0 ≤ 1
-one-most true = omega arith
-one-most false = omega arith
-
 module _ (f : ℕ → Bool) where
   pub before-next : (d : ℕ) → before f (d + 1) ≡ before f d + cond (f d) 1 0
   unfolding before

@@ -1,7 +1,6 @@
 // The calendar law, asked of any set of days.
 ghost use Rattle.std.specs.Prelude.{◌≡◌, ◌+◌, ◌<◌, Decides};
 ghost use Rattle.calendars.specs.Calendars.{after_ninth, Four};
-ghost use Rattle.calendars.specs.Sets.{between};
 
 use crate::day_set::DaySet;
 use crate::walks::{count_between, days_of};

@@ -1,6 +1,6 @@
 // The list calendar: the weekday calendar with the days of a list closed as well.
 ghost use Rattle.std.specs.Prelude.{◌≡◌, ℕ, ◌≤◌, is_some, Decides, MatchResult};
-ghost use Rattle.coded.specs.Places.{Rising, place};
+ghost use Rattle.coded.specs.Places.{Rising};
 ghost use Rattle.calendars.specs.Calendars.{listed, Four, Ordered};
 ghost use Rattle.calendars.specs.Refusals.{Accepted, Refused};
 ghost use Rattle.calendars.specs.Lawfulness.{listed-lawful};

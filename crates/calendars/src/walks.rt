@@ -1,6 +1,5 @@
 // Counts and walks over a set of days.
 ghost use Rattle.std.specs.Prelude.{◌≡◌, ℕ, ◌+◌, ◌-◌, ◌<◌, ◌≤◌, if◌then◌else◌, MatchOption};
-ghost use Rattle.dates.specs.Dates.{when};
 ghost use Rattle.calendars.specs.Sets.{between};
 ghost use Rattle.calendars.specs.Walks.{days_of, first_from, First, NoneIn, Next, next_after, first_in_month, left_in_month, leaves, with_left};
 

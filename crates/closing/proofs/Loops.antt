@@ -1,5 +1,5 @@
 -- Loops over the classes: tests, the class that is succeeded, sums, tables. Assumes nothing.
-use Rattle.std.proofs.Common.{◌≡◌, ℕ, zero, suc, ◌+◌, ◌*◌, ◌^◌, ◌<◌, ◌≤◌, Bool, true, false, cond, MatchBool, MatchOption, ◌||◌, not, ◌&&◌, eqb, List, map, length, get_or, set, ℤ, ◌+ℤ◌, nat_abs, Some, None, Option, sym, refl, ap, ◌∙◌, subst, ⊎_elim, mul-le-mul_left, mul-add, zero-add, add-one, arith, length-set, SFits, to_z, of_z}
+use Rattle.std.proofs.Common.{◌≡◌, ℕ, zero, suc, ◌+◌, ◌*◌, ◌^◌, ◌<◌, ◌≤◌, Bool, true, false, MatchBool, MatchOption, ◌||◌, not, ◌&&◌, eqb, List, map, length, get_or, ℤ, ◌+ℤ◌, nat_abs, Some, None, Option, sym, refl, ap, ◌∙◌, subst, ⊎_elim, mul-le-mul_left, mul-add, zero-add, add-one, arith, SFits, to_z, of_z}
 use mir.Syntax.{Width, w128}
 use mir.Val.{hbits}
 use Rattle.amounts.proofs.Exact.{small-fits, added}
@@ -9,7 +9,6 @@ use Rattle.ledger.specs.Calls.{source_below}
 use Rattle.ledger.specs.Words.{all_below}
 use Rattle.closing.specs.Closing.{successors_on}
 use Rattle.std.proofs.lemmas.List.FromFn.{fill_by_all, get_or-map-range_with_len, length-range_with_len, get_or-range_with_len}
-use Rattle.std.proofs.lemmas.List.Edits.{fill_by_more}
 use Rattle.std.proofs.lemmas.Int.{ints, to_z-of_z}
 use Rattle.std.proofs.lemmas.Bool.{cases_Bool, cases_eq, false≢true, cond-true, cond-false}
 use Rattle.terms.proofs.Handovers.{any_at}
@@ -20,13 +19,6 @@ use Rattle.terms.specs.Laws.{Laws, names}
 use Rattle.terms.specs.Meaning.{Meaning, any_below, successor}
 
 -- ---- tests
-
-pub all_end : (m : ℕ) (f : ℕ → Bool) (n : ℕ) → n ≡ m → all_below n f ≡ true → all_below m f ≡ true
-all_end m f n e h = subst (λ k. all_below k f ≡ true) e h
-
-pub cond_same : {A : Type 0} (b : Bool) (x : A) → cond b x x ≡ x
-cond_same true x = refl
-cond_same false x = refl
 
 pub all-pass : (n : ℕ) (f : ℕ → Bool) → ((k : ℕ) → k < n → f k ≡ true) → all_below n f ≡ true
 all-pass zero f h = refl
@@ -126,17 +118,7 @@ module _ (x y : ℤ) (p : nat_abs x ≤ 2 ^ 98 * 12) (q : nat_abs y ≤ 2 ^ 96 *
   pub both_small : nat_abs (to_z w128 (of_z w128 (to_z w128 (of_z w128 x) +ℤ to_z w128 (of_z w128 y)))) ≤ 2 ^ 110
   both_small = rw both_is both-size
 
--- ---- a table filled class by class
-
-abbrev pub Filled : {X : Type 0} → (ℕ → X) → X → ℕ → List X → Type 0
-Filled f d i xs = ((k : ℕ) → k < i → get_or xs k d ≡ f k) × (length xs ≡ 12)
-
-pub fill-turn : {X : Type 0} (f : ℕ → X) (d : X) (i : ℕ) (xs : List X) (v : X) → i < 12 → v ≡ f i → Filled f d i xs → Filled f d (i + 1) (set xs i v)
-fill-turn f d i xs v h e r =
-    (subst (λ v. (k : ℕ) → k < i + 1 → get_or (set xs i v) k d ≡ f k) (sym e) (fill_by_more f xs i d (omega (arith, r.1)) r.0), simp length-set r.1)
-
-pub fill_end : {X : Type 0} (f : ℕ → X) (d : X) (i : ℕ) (xs : List X) → i ≡ 12 → Filled f d i xs → xs ≡ map f (range_with_len 0 12)
-fill_end f d i xs e r = fill_by_all f xs 12 d r.1 (λ k h. r.0 k (omega arith))
+-- ---- tables
 
 -- a table made by calls at each place, where each call has a property and changes nothing
 module _ {F B : Type 0} (g : Mut F (ℕ × Unit {0}) B) (f : F) (P : ℕ → B → Type 0) (call : (i : ℕ) (y : B) (q : F) → Called g f (i, tt) y q → P i y × (q ≡ f)) where

@@ -74,7 +74,7 @@ impl<T: Terms> Journal<T> {
     }
 
     // Hands a call to the book and notes it with its answer. A settle and a close get the first lines of the list, as many as
-    // the call says. Where there is no memory for the note, nothing is done.
+    // the call says. Where there is no memory for the note, or no more room, nothing is done.
     pub fn call(
         &mut self,
         call: Call,

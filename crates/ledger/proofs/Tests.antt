@@ -1,5 +1,6 @@
 -- Tests over all numbers below a bound, answers that may be none, and the questions. Assumes nothing.
-use Rattle.std.proofs.Common.{◌≡◌, ℕ, zero, suc, ◌+◌, ◌<◌, Bool, true, false, cond, not, ◌&&◌, eqb, is_some, Some, None, Option, sym, refl, ap, ◌∙◌, ⊎_elim, add-one, arith}
+use Rattle.std.proofs.Common.{◌≡◌, ℕ, zero, suc, ◌<◌, Bool, true, false, cond, not, ◌&&◌, eqb, is_some, Some, None, Option, sym, refl, ap, ◌∙◌, ⊎_elim, arith}
+use Rattle.std.proofs.Math.Bool.{and-false}
 use Rattle.std.proofs.lemmas.Bool.{cases_eq, eq-eqb, ne_eqb, eqb-true, and_parts, or_parts, or_cases, false≢true}
 use Rattle.terms.specs.Laws.{names}
 use Rattle.terms.specs.Meaning.{any_below}
@@ -17,14 +18,6 @@ pub all-not : (n : ℕ) (f : ℕ → Bool) (k : ℕ) → k < n → f k ≡ false
 all-not zero f k h e = absurd (omega arith)
 all-not (suc n) f k h e =
     ⊎_elim (λ (q : k ≡ n). ap (λ b. all_below n f && b) (ap f (sym q) ∙ e) ∙ and-false (all_below n f)) (λ (q : k ≡ n → ⊥). ap (λ b. b && f n) (all-not n f k (omega arith) e)) (cases_eq k n)
-  where
-    and-false : (b : Bool) → (b && false) ≡ false
-    and-false true = refl
-    and-false false = refl
-
--- one more that passes
-pub all_more : (n : ℕ) (f : ℕ → Bool) → all_below n f ≡ true → f n ≡ true → all_below (n + 1) f ≡ true
-all_more n f e h = rw add-one (λ i. e i && h i)
 
 pub all_same : (n : ℕ) (f g : ℕ → Bool) → ((k : ℕ) → k < n → f k ≡ g k) → all_below n f ≡ all_below n g
 all_same zero f g e = refl

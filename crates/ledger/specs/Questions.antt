@@ -1,5 +1,5 @@
--- The calls that only ask: margins, holding, cash and day; and the payment lines of close and settle. Assumes nothing.
-use Rattle.std.specs.Prelude.{ℕ, Bool, true, cond, List, ◌++◌, map, length, get_or, drop, ℤ, pos, ◌+ℤ◌, is_some, Some, None, Option, ◌==◌, nat_lt, unsigned_abs}
+-- The calls that only ask: margins, holding and cash; and the payment lists of close and settle. Assumes nothing.
+use Rattle.std.specs.Prelude.{ℕ, Bool, true, cond, List, ◌++◌, map, get_or, drop, ℤ, pos, ◌+ℤ◌, is_some, Some, None, Option, ◌==◌, nat_lt, unsigned_abs}
 use Rattle.amounts.specs.Amounts.{class_margin, repricing_addition, total_margin}
 use Rattle.amounts.specs.SumsOfWhole.{sum_z}
 use Rattle.coded.specs.Places.{place}
@@ -57,7 +57,7 @@ margin_in w lines s a c =
 abbrev pub margins : Meaning → List ClassLine → State → ℕ → ℤ
 margins w lines s a = total_margin (sum_z w.classes (margin_in w lines s a))
 
--- ---- holding, cash and day
+-- ---- holding and cash
 
 abbrev pub holding_refusal : Meaning → State → ℕ → ℕ → Option Fault
 holding_refusal w s a c = ask (known s a) UnknownAccount (ask (nat_lt c w.classes) UnknownClass None)
@@ -70,9 +70,6 @@ cash_refusal s a = ask (known s a) UnknownAccount None
 
 abbrev pub cash : State → ℕ → ℤ
 cash s a = s.cash a
-
-abbrev pub day : State → ℕ
-day s = s.day
 
 -- ---- payment lists
 

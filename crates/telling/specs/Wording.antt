@@ -13,6 +13,11 @@ dated d (Some x) = weekday_name (weekday_of d) ++ (codes " " ++ date_text x)
 abbrev pub day_text : ℕ → List ℕ
 day_text d = dated d (date_of d)
 
+-- the same where a day is given
+abbrev pub optional_day_text : Option ℕ → List ℕ
+optional_day_text None = codes "none"
+optional_day_text (Some d) = day_text d
+
 -- as in March 2008
 abbrev pub month_text : ℕ → List ℕ
 month_text m =

@@ -1,6 +1,6 @@
 // Days and months in words.
 ghost use Rattle.std.specs.Prelude.{◌≡◌, IfOk, string_bytes};
-ghost use Rattle.telling.specs.Wording.{day_text, month_text, months_text};
+ghost use Rattle.telling.specs.Wording.{day_text, optional_day_text, month_text, months_text};
 
 use std::alloc::{AllocError, Global};
 use terms::Months;
@@ -16,7 +16,10 @@ pub fn day_text(heap: Global, day: u32) -> Result<String, AllocError>
     }
 }
 
-pub(crate) fn optional_day_text(heap: Global, day: Option<u32>) -> Result<String, AllocError> {
+// The same where a day is given.
+pub(crate) fn optional_day_text(heap: Global, day: Option<u32>) -> Result<String, AllocError>
+    ensures { IfOk result (λ s. string_bytes s ≡ optional_day_text day) }
+{
     match day {
         Some(day) => day_text(heap, day),
         None => format!(in heap; "none"),

@@ -1,5 +1,5 @@
 -- No month is lost when a day is closed. Assumes nothing.
-use Rattle.std.proofs.Common.{◌≡◌, ℕ, zero, suc, ◌+◌, ◌<◌, Bool, true, false, cond, ◌&&◌, is_some, Some, None, Option, sym, refl, ap, ◌∙◌, ⊎_elim, add-one, arith}
+use Rattle.std.proofs.Common.{◌≡◌, ℕ, zero, suc, ◌<◌, Bool, true, false, cond, ◌&&◌, is_some, Some, None, Option, sym, refl, ap, ◌∙◌, ⊎_elim, arith}
 use Rattle.std.proofs.lemmas.Bool.{and_parts, or_left, or_right, cases_eq, cases_lt, false≢true, ltb-true}
 use Rattle.std.proofs.lemmas.Option.{none-some}
 use Rattle.calendars.proofs.Firsts.{found, none_found}
@@ -14,9 +14,6 @@ pub any_at : (n : ℕ) (f : ℕ → Bool) (k : ℕ) → k < n → f k ≡ true �
 any_at zero f k h e = absurd (omega arith)
 any_at (suc n) f k h e =
     ⊎_elim (λ (l : k < n). or_left _ _ (any_at n f k l e)) (λ l. let z : k ≡ n = omega arith in or_right (any_below n f) (f n) (ap f (sym z) ∙ e)) (cases_lt k n)
-
-pub any-more : (n : ℕ) (f : ℕ → Bool) → any_below n f ≡ false → f n ≡ false → any_below (n + 1) f ≡ false
-any-more n f a b = rw (add-one, a, b)
 
 module _ (w : Meaning) (law : Laws w) where
   -- a class with a month is one for which terms answer
