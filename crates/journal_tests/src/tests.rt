@@ -18,6 +18,10 @@ const OLD: Payment = Payment {
     cents: 5,
 };
 
+fn payment(account: u32, cents: i128) -> Payment {
+    Payment { account, cents }
+}
+
 const CLOSE: Call = Call::Close { room: 2 };
 
 fn line(class: u32) -> ClassLine {
@@ -77,11 +81,8 @@ fn sums(rt: HostRuntime) -> Result<(), Fail> {
     assert_eq!(rt; number(journal.call(CLOSE, &mut list)?), 18);
     assert_eq!(rt; buy(&mut journal, &mut list, 1, 7000)?, 0);
     assert_eq!(rt; end_day(&mut journal, &mut list)?, 0);
-    assert_eq!(rt; list[..3], [
-        Payment { account: 0, cents: 109_200 },
-        Payment { account: 1, cents: -109_200 },
-        OLD,
-    ]);
+    let paid = [payment(0, 109_200), payment(1, -109_200), OLD];
+    assert_eq!(rt; [list[0], list[1], list[2]], paid);
     assert_eq!(rt; journal.entries().len(), 12);
     assert_eq!(rt; journal.book().cash(0), Ok(109_200));
     for class in 0..11 {
@@ -97,8 +98,18 @@ fn holds_months(rt: HostRuntime) -> Result<(), Fail> {
     let mut journal = open(rt.alloc()).ok_or("no book")?;
     let mut list = [OLD; 32];
     assert_eq!(rt; buy(&mut journal, &mut list, 1, 7000)?, 0);
-    for (account, month, lots) in [(0, 98, 0), (0, 99, 1), (1, 101, -1), (1, 102, 0), (0, 1200, 0)] {
-        assert_eq!(rt; journal.held(account, month), Ok(lots), "{account} in {month}");
+    for (account, month, lots) in [
+        (0, 98, 0),
+        (0, 99, 1),
+        (1, 101, -1),
+        (1, 102, 0),
+        (0, 1200, 0),
+    ] {
+        assert_eq!(rt;
+            journal.held(account, month),
+            Ok(lots),
+            "{account} in {month}"
+        );
     }
     assert_eq!(rt; number(journal.held(2, 99)), 7);
     assert_eq!(rt; number(journal.statement(2)), 7);
@@ -141,9 +152,12 @@ fn states_a_settled_month(rt: HostRuntime) -> Result<(), Fail> {
     for _ in 0..43 {
         assert_eq!(rt; end_day(&mut journal, &mut list)?, 0);
     }
-    let settle = Call::Settle { price: 6900, room: 2 };
+    let settle = Call::Settle {
+        price: 6900,
+        room: 2,
+    };
     assert_eq!(rt; number(journal.call(settle, &mut list)?), 0);
-    assert_eq!(rt; list[0], Payment { account: 0, cents: -108_000 });
+    assert_eq!(rt; list[0], payment(0, -108_000));
     assert_eq!(rt; journal.held(0, 99), Ok(0));
     assert_eq!(rt; journal.held(0, 100), Ok(1));
     let told = journal.statement(0).map_err(|_| "no account")?;
