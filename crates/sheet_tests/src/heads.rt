@@ -68,6 +68,7 @@ fn lengths(rt: HostRuntime) -> Result<(), Fail> {
     let wanted = headed(rt.alloc(), "2,31,,\n")?;
     assert_eq!(rt; told.as_str(), wanted.as_str());
     sheet.push_str("\n")?;
+    assert_eq!(rt; sheet.len() as u64, day_sheet::MOST_READ);
     let told = answers(rt.alloc(), sheet.as_str())?;
     let wanted = headed(rt.alloc(), "0,29,,\n")?;
     assert_eq!(rt; told.as_str(), wanted.as_str());
