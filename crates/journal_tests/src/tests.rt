@@ -136,8 +136,9 @@ fn states_an_account(rt: HostRuntime) -> Result<(), Fail> {
     let read = history::read_account(&terms(), 98, journal.entries(), 0).ok_or("too long")?;
     assert_eq!(rt; read.calls, 12);
     assert_eq!(rt; read.day, 2985);
-    assert_eq!(rt; read.nets[99], 3);
-    assert_eq!(rt; read.since[3], 2);
+    let net = read.nets[99];
+    let since = read.since[3];
+    assert_eq!(rt; (net, since), (3, 2));
     assert_eq!(rt; read.booked, 15_288_000);
     assert_eq!(rt; read.costs, 46_300_800);
     Ok(())
