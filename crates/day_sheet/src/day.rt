@@ -15,10 +15,7 @@ use std::alloc::{AllocError, Global};
 pub const MOST_READ: u64 = 65_537;
 
 // The answers to a sheet that is called on the bench's book: Baseload on the weekday calendar, two accounts, from March 2008.
-pub fn answer(
-    heap: Global,
-    sheet: &[u8],
-) -> Result<Answered<Power<Weekdays, Baseload>>, AllocError>
+pub fn answer(heap: Global, sheet: &[u8]) -> Result<Answered<Power<Weekdays, Baseload>>, AllocError>
     ensures text { IfOk result (λ a. string_bytes a.text ≡ day_sheet_text sheet.now) }
     ensures book { IfOk result (λ a. a.journal.book.tables ≡ day_sheet_tables sheet.now) }
     ensures law { IfOk result (λ a. ∥ Lived bench_terms 98 (day_sheet_entries sheet.now) (day_sheet_tables sheet.now) ∥₁) }

@@ -81,11 +81,7 @@ fn mark_all<T: Terms>(desk: &mut Desk<T>) -> anyhow::Result<()> {
 }
 
 // The final settlement, on the first day on which there is something to settle.
-fn settle<T: Terms>(
-    rt: &HostRuntime,
-    product: Product,
-    desk: &mut Desk<T>,
-) -> anyhow::Result<()> {
+fn settle<T: Terms>(rt: &HostRuntime, product: Product, desk: &mut Desk<T>) -> anyhow::Result<()> {
     let class = desk.terms().settling();
     if desk.last_price(class).is_none() {
         return Ok(());
@@ -187,11 +183,7 @@ fn holds_nothing<T: Terms>(desk: &Desk<T>) -> bool {
 }
 
 // Day after day, until nothing is held any more.
-fn live<T: Terms>(
-    rt: &HostRuntime,
-    product: Product,
-    desk: &mut Desk<T>,
-) -> anyhow::Result<()> {
+fn live<T: Terms>(rt: &HostRuntime, product: Product, desk: &mut Desk<T>) -> anyhow::Result<()> {
     let mut quiet = Quiet { closes: 0, paid: 0 };
     let mut repriced = false;
     for turn in 0..2000u32 {

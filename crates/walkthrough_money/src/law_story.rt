@@ -27,7 +27,13 @@ fn tell_month<T: Terms>(
     statement: &Statement,
     month: u32,
 ) -> anyhow::Result<()> {
-    let name = months_text(rt.alloc(), Months { first: month, count: 1 })?;
+    let name = months_text(
+        rt.alloc(),
+        Months {
+            first: month,
+            count: 1,
+        },
+    )?;
     let net = statement.net(month);
     let held = desk.journal.held(0, month).unwrap_or(0);
     match statement.final_price(month) {
@@ -58,13 +64,11 @@ fn tell_cash(
 }
 
 // The law's three parts, read off the list of calls.
-pub fn tell<T: Terms>(
-    rt: &HostRuntime,
-    desk: &Desk<T>,
-    months: Months,
-) -> anyhow::Result<()> {
+pub fn tell<T: Terms>(rt: &HostRuntime, desk: &Desk<T>, months: Months) -> anyhow::Result<()> {
     let count = desk.journal.entries().len();
-    println!(rt; "The law of the ledger, read off the list of its {count} calls and their answers:")?;
+    println!(rt;
+        "The law of the ledger, read off the list of its {count} calls and their answers:"
+    )?;
     tell_sums(rt, desk)?;
     for account in 0..bench::ACCOUNTS {
         if let Ok(statement) = desk.journal.statement(account) {
@@ -110,7 +114,10 @@ pub fn tell_replay<T: Terms + Drop>(
             .zip(entries.iter())
             .filter(|(first, second)| number_of(first.answer) != number_of(second.answer))
             .count();
-        let refused = entries.iter().filter(|entry| entry.answer.is_some()).count();
+        let refused = entries
+            .iter()
+            .filter(|entry| entry.answer.is_some())
+            .count();
         let cash = book.cash(0).unwrap_or(0);
         println!(rt;
             "Handed over as one list to a new book, the same calls get answers of which {differing} differ and {refused} are refusals, and the cash of account 0 is {cash} cents."

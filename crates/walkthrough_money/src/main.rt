@@ -52,7 +52,13 @@ fn tell(rt: &HostRuntime, closed: Vec<u32>) -> anyhow::Result<()> {
         return Ok(());
     };
     let again = calendar_of(closed.clone()?)?;
-    tell_position(rt, Product::Power, baseload(calendar), baseload(again), year)?;
+    tell_position(
+        rt,
+        Product::Power,
+        baseload(calendar),
+        baseload(again),
+        year,
+    )?;
     let wheat = Wheat {
         calendar: calendar_of(closed.clone()?)?,
     };

@@ -13,11 +13,7 @@ fn held_class<T: Terms>(desk: &Desk<T>) -> Option<(u32, i32, i32)> {
     Some((class, lots, price))
 }
 
-pub fn tell<T: Terms>(
-    rt: &HostRuntime,
-    product: Product,
-    desk: &Desk<T>,
-) -> anyhow::Result<()> {
+pub fn tell<T: Terms>(rt: &HostRuntime, product: Product, desk: &Desk<T>) -> anyhow::Result<()> {
     let Some((class, lots, price)) = held_class(desk) else {
         return Ok(());
     };
