@@ -1,8 +1,12 @@
 // The bench's book.
-ghost use Rattle.std.specs.Prelude.{◌≡◌, map};
-ghost use Rattle.day_sheet.specs.DaySheet.{bench_lines, bench_line};
+ghost use Rattle.std.specs.Prelude.{◌≡◌, [], IfOk};
+ghost use Rattle.day_sheet.specs.DaySheet.{bench_tables, bench_lines, bench_line};
 
+use calendars::Weekdays;
 use coded::ClassLine;
+use journal::Journal;
+use power::{Baseload, Power};
+use std::alloc::{AllocError, Global};
 use std::array;
 
 // A class's line.
@@ -16,8 +20,22 @@ fn line(class: u32) -> ClassLine
 }
 
 // A line for each class of power.
-pub(crate) fn lines() -> [ClassLine; 11]
+fn lines() -> [ClassLine; 11]
     ensures { result ≡ bench_lines }
 {
     array::from_fn(|class| line(class as u32))
+}
+
+// The bench's book, with no call yet.
+pub(crate) fn open(heap: Global) -> Result<Journal<Power<Weekdays, Baseload>>, AllocError>
+    ensures book { IfOk result (λ j. j.book.tables ≡ bench_tables) }
+    ensures history { IfOk result (λ j. (j.month ≡ 98) × (j.entries.items ≡ [])) }
+{
+    let terms = Power {
+        calendar: Weekdays,
+        profile: Baseload,
+    };
+    let lines = lines();
+    // It can be made; the check is not asked to see it.
+    Journal::open(heap, terms, bench::START_MONTH, bench::ACCOUNTS, &lines).map_err(|_| AllocError)
 }

@@ -5,7 +5,6 @@ ghost use Rattle.journal.specs.Lived.{Lived};
 
 use crate::bench_book;
 use calendars::Weekdays;
-use journal::Journal;
 use power::{Baseload, Power};
 use products::Product;
 use sheet::{Answered, answer_sheet};
@@ -20,14 +19,6 @@ pub fn answer(heap: Global, sheet: &[u8]) -> Result<Answered<Power<Weekdays, Bas
     ensures book { IfOk result (λ a. a.journal.book.tables ≡ day_sheet_tables sheet.now) }
     ensures law { IfOk result (λ a. ∥ Lived bench_terms 98 (day_sheet_entries sheet.now) (day_sheet_tables sheet.now) ∥₁) }
 {
-    let terms = Power {
-        calendar: Weekdays,
-        profile: Baseload,
-    };
-    let lines = bench_book::lines();
-    match Journal::open(heap, terms, bench::START_MONTH, bench::ACCOUNTS, &lines) {
-        Ok(journal) => answer_sheet(heap, Product::Power, journal, sheet),
-        // The bench's book can be made; the check is not asked to see it.
-        Err(_) => Err(AllocError),
-    }
+    let journal = bench_book::open(heap)?;
+    answer_sheet(heap, Product::Power, journal, sheet)
 }

@@ -15,8 +15,12 @@ accepted line amount = record { line = line; refusal = 0; amount = amount }
 
 -- the account and the cents, both blank where there are none
 abbrev pub amount_text : Option Payment → List ℕ
-amount_text None = codes ",\n"
-amount_text (Some p) = decimal p.account ++ (codes "," ++ (signed_decimal p.cents ++ codes "\n"))
+amount_text None = codes ","
+amount_text (Some p) = decimal p.account ++ (codes "," ++ signed_decimal p.cents)
 
 abbrev pub answer_text : Answer → List ℕ
 answer_text a = decimal a.line ++ (codes "," ++ (decimal a.refusal ++ (codes "," ++ amount_text a.amount)))
+
+-- the same with its line feed
+abbrev pub answer_line : Answer → List ℕ
+answer_line a = answer_text a ++ codes "\n"

@@ -12,7 +12,7 @@ use Rattle.ledger.specs.declared.payment.Payment.{Payment}
 use Rattle.rows.specs.declared.fault.SheetFault.{SheetFault}
 use Rattle.rows.specs.declared.request.Request.{Request}
 use Rattle.rows.specs.declared.request.Request.TheVariants.{Book as OfBook, Margins as OfMargins}
-use Rattle.sheet.specs.Answers.{answer_text, refused, accepted}
+use Rattle.sheet.specs.Answers.{answer_line, refused, accepted}
 use Rattle.sheet.specs.declared.cause.Cause.{Cause}
 use Rattle.sheet.specs.declared.cause.Cause.TheVariants.{Sheet, Book}
 use Rattle.std.specs.List.{flat_map}
@@ -52,6 +52,6 @@ module _ (w : Meaning) (t : Tables) where
 
 -- the lines that tell a reply to line n
 abbrev pub reply_text : ℕ → Result (List Payment) Cause → List ℕ
-reply_text n (Err cause) = answer_text (refused (record { line = n; cause = cause }))
-reply_text n (Ok []) = answer_text (accepted n None)
-reply_text n (Ok (p ∷ ps)) = flat_map (λ p. answer_text (accepted n (Some p))) (p ∷ ps)
+reply_text n (Err cause) = answer_line (refused (record { line = n; cause = cause }))
+reply_text n (Ok []) = answer_line (accepted n None)
+reply_text n (Ok (p ∷ ps)) = flat_map (λ p. answer_line (accepted n (Some p))) (p ∷ ps)

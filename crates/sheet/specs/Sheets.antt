@@ -7,7 +7,7 @@ use Rattle.rows.specs.Columns.{names_of}
 use Rattle.rows.specs.Requests.{request}
 use Rattle.rows.specs.declared.fault.SheetFault.{SheetFault}
 use Rattle.rows.specs.declared.fault.SheetFault.TheVariants.{TooLong, ColumnNames}
-use Rattle.sheet.specs.Answers.{answer_text, refused}
+use Rattle.sheet.specs.Answers.{answer_line, refused}
 use Rattle.sheet.specs.Replies.{reply, reply_text, left, noted}
 use Rattle.sheet.specs.declared.cause.Cause.TheVariants.{Sheet}
 use Rattle.sheet.specs.declared.cause.LineFault.{LineFault}
@@ -53,7 +53,7 @@ module _ (w : Meaning) (product : Product) (places : List ℕ) where
 
 module _ (w : Meaning) (product : Product) (t : Tables) where
   abbrev pub body : Result (List ℕ × List (List ℕ)) LineFault → List ℕ
-  body (Err fault) = answer_text (refused fault)
+  body (Err fault) = answer_line (refused fault)
   body (Ok s) = rows_text w product s.0 2 t s.1
 
   abbrev pub tables_after : Result (List ℕ × List (List ℕ)) LineFault → Tables

@@ -49,8 +49,8 @@ impl fmt::Display for Answer {
             amount,
         } = *self;
         match amount {
-            Some(Payment { account, cents }) => write!(f, "{line},{refusal},{account},{cents}\n"),
-            None => write!(f, "{line},{refusal},,\n"),
+            Some(Payment { account, cents }) => write!(f, "{line},{refusal},{account},{cents}"),
+            None => write!(f, "{line},{refusal},,"),
         }
     }
 }

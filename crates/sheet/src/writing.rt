@@ -1,7 +1,7 @@
 // The answers to a line, written behind those before.
 ghost use Rattle.std.specs.Prelude.{◌≡◌, ◌++◌, List, Ok, Err, Some, Result, IfOk, MatchResult, string_bytes, take};
 ghost use Rattle.ledger.specs.declared.payment.Payment.{Payment as Paid};
-ghost use Rattle.sheet.specs.Answers.{answer_text, accepted};
+ghost use Rattle.sheet.specs.Answers.{answer_line, accepted};
 ghost use Rattle.sheet.specs.Replies.{reply_text};
 ghost use Rattle.sheet.specs.declared.cause.Cause.{Cause as Why};
 ghost use Rattle.std.specs.List.{flat_map};
@@ -12,14 +12,14 @@ use ledger::Payment;
 use std::alloc::AllocError;
 
 pub(crate) fn write_answer(text: &mut String, answer: Answer) -> Result<(), AllocError>
-    ensures { IfOk result (λ u. string_bytes text.new ≡ string_bytes text.old ++ answer_text answer) }
+    ensures { IfOk result (λ u. string_bytes text.new ≡ string_bytes text.old ++ answer_line answer) }
 {
-    write!(text, "{answer}")
+    writeln!(text, "{answer}")
 }
 
 // One line for each amount.
 fn write_amounts(text: &mut String, line: usize, amounts: &[Payment]) -> Result<(), AllocError>
-    ensures { IfOk result (λ u. string_bytes text.new ≡ string_bytes text.old ++ flat_map (λ p. answer_text (accepted line (Some p))) amounts.now) }
+    ensures { IfOk result (λ u. string_bytes text.new ≡ string_bytes text.old ++ flat_map (λ p. answer_line (accepted line (Some p))) amounts.now) }
 {
     for payment in amounts {
         write_answer(text, Answer::accepted(line, Some(*payment)))?;
