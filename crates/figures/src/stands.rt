@@ -1,4 +1,4 @@
-// Theorems of the definitions: the answers are just 0.
+// Theorems of the definitions: the numbers that are answered mean nothing.
 ghost use Rattle.figures.specs.Figures.{Figures};
 ghost use Rattle.figures.specs.Products.{AllProducts};
 
