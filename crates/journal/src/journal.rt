@@ -11,12 +11,10 @@ ghost use Rattle.std.specs.Result.{result_err};
 
 use book::{Book, NotMade};
 use coded::ClassLine;
+use history::MOST_CALLS;
 use ledger::{Call, Entry, Fault, Payment};
 use std::alloc::{AllocError, Global};
 use terms::Terms;
-
-// How many calls a journal has room for.
-pub const MOST_CALLS: usize = 1_000_000_000;
 
 // A book, the month of its make, and its calls with their answers: the law of the ledger holds of them.
 #[derive(Drop)]
@@ -83,6 +81,7 @@ impl<T: Terms> Journal<T> {
         ensures noted { MatchResult result (λ r. (r ≡ reply (refusal (T.meaning self.old.book.terms) (view self.old.book.tables) call) tt) × (self.new.book.tables ≡ after_tables (T.meaning self.old.book.terms) self.old.book.tables call) × (list.new ≡ list_after (T.meaning self.old.book.terms) (view self.old.book.tables) call list.old) × (self.new.entries.items ≡ self.old.entries.items ++ record { call = call; answer = refusal (T.meaning self.old.book.terms) (view self.old.book.tables) call } ∷ [])) (λ e. (self.new.book.tables ≡ self.old.book.tables) × (list.new ≡ list.old) × (self.new.entries.items ≡ self.old.entries.items)) }
         ensures same { (self.new.book.terms ≡ self.old.book.terms) × (self.new.month ≡ self.old.month) }
     {
+        // A journal has room for as many calls as can be read.
         if self.entries.len() >= MOST_CALLS {
             return Err(AllocError);
         }
