@@ -1,7 +1,9 @@
 #!/usr/bin/env python3
-# Writes the table of planted bugs in docs/PROMISES.md anew from the crates' must-fail/ folders.
+# Writes the table of planted bugs in docs/PROMISES.md anew from the crates' must-fail/ folders and the log of a gate's run:
+# tools/edits_table.py LOG. The log has a line for each edit, with the first thing that the prover said.
 import pathlib
 import re
+import sys
 
 LAYERS = [
     ("dates", "dates"), ("coded", "search"), ("calendars", "calendars"), ("text", "text"), ("holidays", "closed days"),
@@ -17,6 +19,21 @@ def cell(text):
     return "`" + re.sub(r"\s+", " ", text.strip()).replace("|", r"\|") + "`"
 
 
+def refusals(log):
+    """What was not proved, by crate and edit."""
+    said = {}
+    for line in log.read_text(errors="replace").splitlines():
+        found = re.match(r"rt: must-fail (\S+?)/(\S+?)\.edit: refused, as it must be: (.*)", line)
+        if found:
+            place = re.search(r"((?:src|proofs)/\S+?\.(?:rt|antt))", found[3])
+            goal = re.search(r"\(`([^`]+)`\)|error: `([^`]+)`", found[3])
+            where = f"`{place[1]}`" if place else "?"
+            what = f": `{goal[1] or goal[2]}`" if goal else ""
+            said[found[1], found[2]] = where + what
+    return said
+
+
+said = refusals(pathlib.Path(sys.argv[1]))
 rows = []
 for crate, layer in LAYERS:
     for edit in sorted((top / "crates" / crate / "must-fail").glob("*.edit")):
@@ -24,9 +41,10 @@ for crate, layer in LAYERS:
         old = [line[5:] for line in lines if line.startswith("old: ")]
         new = [line[5:] for line in lines if line.startswith("new: ")]
         change = ", ".join(f"{cell(a)} → {cell(b)}" for a, b in zip(old, new))
-        rows.append(f"| {layer} | {edit.stem.replace('_', ' ')} | {change} |")
+        refused = said.get((crate, edit.stem), "not in the log")
+        rows.append(f"| {layer} | {edit.stem.replace('_', ' ')} | {change} | {refused} |")
 page = top / "docs" / "PROMISES.md"
 text = page.read_text()
 head = text[: text.index("| Layer | Bug | Edit |")]
-page.write_text(head + "| Layer | Bug | Edit |\n| --- | --- | --- |\n" + "\n".join(rows) + "\n")
+page.write_text(head + "| Layer | Bug | Edit | Not proved |\n| --- | --- | --- | --- |\n" + "\n".join(rows) + "\n")
 print(len(rows), "edits")
