@@ -61,6 +61,7 @@ where
     ensures text { IfOk result (λ a. string_bytes a.text ≡ sheet_text (T.meaning journal.book.terms) product journal.book.tables sheet.now) }
     ensures book { IfOk result (λ a. a.journal.book.tables ≡ sheet_tables (T.meaning journal.book.terms) product journal.book.tables sheet.now) }
     ensures history { IfOk result (λ a. a.journal.entries.items ≡ journal.entries.items ++ sheet_entries (T.meaning journal.book.terms) product journal.book.tables sheet.now) }
+    ensures same { IfOk result (λ a. (a.journal.book.terms ≡ journal.book.terms) × (a.journal.month ≡ journal.month)) }
     ensures law { IfOk result (λ a. ∥ Lived (T.meaning journal.book.terms) journal.month a.journal.entries.items a.journal.book.tables ∥₁) }
 {
     let mut text = String::new(heap);
