@@ -33,6 +33,16 @@ impl<T: Terms> Book<T> {
             .and_then(|prices| prices.last)
     }
 
+    // The day's price of a class, by number; a number that is no class has none.
+    pub fn day_price(&self, class: u32) -> Option<i32>
+        ensures { result ≡ (view self.now.tables).today class }
+    {
+        self.tables
+            .prices
+            .get(class as usize)
+            .and_then(|prices| prices.today)
+    }
+
     // How many accounts the book has; they are numbered from 0.
     pub fn accounts(&self) -> u32
         ensures { result ≡ (view self.now.tables).accounts }

@@ -24,18 +24,18 @@ needed Settle = Price ∷ []
 needed Margins = Buyer ∷ []
 needed Close = []
 
--- whether a call needs the field of a column
-abbrev pub needs : CallName → Column → Bool
-needs call column = list_any (λ other. column_place other == column_place column) (needed call)
-
 -- the columns whose fields a call may need
 abbrev pub fillable : List Column
 fillable = Buyer ∷ Seller ∷ Class ∷ Lots ∷ Price ∷ []
 
--- whether a field is filled where the call needs it, and empty elsewhere
-abbrev pub fits : CallName → (Column → List ℕ) → Column → Bool
-fits call field column = cond (needs call column) (nat_lt 0 (length (field column))) (length (field column) == 0)
+-- whether a column is among those that are needed
+abbrev pub among : List Column → Column → Bool
+among needed column = list_any (λ other. column_place other == column_place column) needed
 
--- whether just the needed fields are filled
-abbrev pub just_needed : CallName → (Column → List ℕ) → Bool
-just_needed call field = list_all (fits call field) fillable
+-- whether a field is filled where it is needed, and empty elsewhere
+abbrev pub fits : List Column → (Column → List ℕ) → Column → Bool
+fits needed field column = cond (among needed column) (nat_lt 0 (length (field column))) (length (field column) == 0)
+
+-- whether just the fields of these columns are filled
+abbrev pub just_filled : List Column → (Column → List ℕ) → Bool
+just_filled needed field = list_all (fits needed field) fillable

@@ -1,3 +1,4 @@
+pub mod Advances
 pub mod CallNames
 pub mod Columns
 pub mod Faults

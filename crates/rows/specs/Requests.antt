@@ -4,7 +4,7 @@ use Rattle.ledger.specs.declared.call.Call.TheVariants.{Trade as trade, Mark as 
 use Rattle.products.specs.Products.{class_of}
 use Rattle.products.specs.declared.product.Product.{Product}
 use Rattle.text.specs.Numbers.{digits_value, signed_value}
-use Rattle.rows.specs.CallNames.{call_named, just_needed}
+use Rattle.rows.specs.CallNames.{call_named, needed, just_filled}
 use Rattle.rows.specs.Columns.{field_in, names_of}
 use Rattle.rows.specs.Fields.{fields}
 use Rattle.rows.specs.declared.call_name.CallName.{CallName}
@@ -78,7 +78,7 @@ request product places line = do
   let field = field_in places (fields line)
   _ ← ask (length (fields line) == 6) ValueCount
   call ← call_in (field CallColumn)
-  _ ← ask (just_needed call field) FieldsFilled
+  _ ← ask (just_filled (needed call) field) FieldsFilled
   asked product call field
 
 -- what a line of values asks under a names line

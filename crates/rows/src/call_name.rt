@@ -1,6 +1,6 @@
 // The calls of a sheet by name, and the fields that each needs.
 ghost use Rattle.std.specs.Prelude.{◌≡◌};
-ghost use Rattle.rows.specs.CallNames.{call_named, needed, needs};
+ghost use Rattle.rows.specs.CallNames.{call_named, needed};
 
 use crate::column::Column;
 
@@ -31,7 +31,7 @@ impl CallName {
     }
 
     // The fields that the call needs.
-    fn needed(self) -> &'static [Column]
+    pub(crate) fn needed(self) -> &'static [Column]
         ensures { result.now ≡ needed self }
     {
         match self {
@@ -47,12 +47,5 @@ impl CallName {
             CallName::Margins => &[Column::Buyer],
             CallName::Close => &[],
         }
-    }
-
-    // Whether the call needs the field of a column.
-    pub(crate) fn needs(self, column: Column) -> bool
-        ensures { result ≡ needs self column }
-    {
-        self.needed().contains(&column)
     }
 }

@@ -77,7 +77,7 @@ impl Names {
         let row = Row::of(line).ok_or(SheetFault::ValueCount)?;
         let values = Values { names: *self, row };
         let call = CallName::of(values.field(Column::Call)).ok_or(SheetFault::UnknownCall)?;
-        if !values.has_just_needed(call) {
+        if !values.has_just(call.needed()) {
             return Err(SheetFault::FieldsFilled);
         }
         values.asked(product, call)

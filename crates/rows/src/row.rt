@@ -13,7 +13,7 @@ fn comma_in(line: &[u8]) -> Option<usize>
 }
 
 // What stands before the first comma and what stands behind it, if there is one.
-fn cut(line: &[u8]) -> Option<(&[u8], &[u8])>
+pub fn cut(line: &[u8]) -> Option<(&[u8], &[u8])>
     ensures { MatchOption result (fields line.now ≡ line.now ∷ []) (λ p. fields line.now ≡ p.0.now ∷ fields p.1.now) }
 {
     let comma = comma_in(line)?;

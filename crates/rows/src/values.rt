@@ -1,10 +1,9 @@
 // The fields of a line of values, by column.
 ghost use Rattle.std.specs.Prelude.{◌≡◌, ◌<◌, IfOk, ok_or};
-ghost use Rattle.rows.specs.CallNames.{fits, just_needed};
+ghost use Rattle.rows.specs.CallNames.{among, fits, just_filled};
 ghost use Rattle.rows.specs.Requests.{number_in, price_in, class_in};
 ghost use Rattle.rows.specs.Values.{value};
 
-use crate::call_name::CallName;
 use crate::column::Column;
 use crate::fault::SheetFault;
 use crate::names::Names;
@@ -27,6 +26,13 @@ const FILLABLE: [Column; 5] = [
     Column::Price,
 ];
 
+// Whether a column is among those that are needed.
+fn is_among(needed: &[Column], column: Column) -> bool
+    ensures { result ≡ among needed.now column }
+{
+    needed.contains(&column)
+}
+
 impl<'a> Values<'a> {
     // The field of a column.
     pub(crate) fn field(&self, column: Column) -> &'a [u8]
@@ -35,18 +41,18 @@ impl<'a> Values<'a> {
         self.names.field(&self.row, column)
     }
 
-    // Whether a field is filled where the call needs it, and empty elsewhere.
-    fn fits(&self, call: CallName, column: Column) -> bool
-        ensures { result ≡ fits call (value self.now) column }
+    // Whether a field is filled where it is needed, and empty elsewhere.
+    fn fits(&self, needed: &[Column], column: Column) -> bool
+        ensures { result ≡ fits needed.now (value self.now) column }
     {
-        call.needs(column) != self.field(column).is_empty()
+        is_among(needed, column) != self.field(column).is_empty()
     }
 
-    // Whether just the fields that the call needs are filled.
-    pub(crate) fn has_just_needed(&self, call: CallName) -> bool
-        ensures { result ≡ just_needed call (value self.now) }
+    // Whether just the fields of these columns are filled.
+    pub(crate) fn has_just(&self, needed: &[Column]) -> bool
+        ensures { result ≡ just_filled needed.now (value self.now) }
     {
-        FILLABLE.iter().all(|&column| self.fits(call, column))
+        FILLABLE.iter().all(|&column| self.fits(needed, column))
     }
 
     // The number of a field without a minus.

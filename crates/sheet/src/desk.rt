@@ -16,10 +16,15 @@ use terms::Terms;
 
 // A journal, and the payment list that is lent to its calls. What a reply tells in amounts stands at the head of the list.
 #[derive(Drop)]
-pub(crate) struct Desk<T: Terms> {
-    pub(crate) journal: Journal<T>,
-    pub(crate) list: [Payment; 32],
+pub struct Desk<T: Terms> {
+    pub journal: Journal<T>,
+    pub list: [Payment; 32],
 }
+
+const NO_PAYMENT: Payment = Payment {
+    account: 0,
+    cents: 0,
+};
 
 // So many amounts are told, unless the book refuses.
 fn told(answer: Result<(), Fault>, count: usize) -> Result<usize, Cause>
@@ -37,6 +42,18 @@ fn put_first(list: &mut [Payment; 32], payment: Payment)
 }
 
 impl<T: Terms> Desk<T> {
+    // The desk of a journal's book.
+    pub fn new(journal: Journal<T>) -> Desk<T>
+    where
+        T: Drop,
+        ensures { result.journal ≡ journal }
+    {
+        Desk {
+            journal,
+            list: [NO_PAYMENT; 32],
+        }
+    }
+
     // How many amounts are told where a call is accepted.
     fn count(&self, call: Call) -> usize
         ensures { result ≡ length (amounts (T.meaning self.now.journal.book.terms) self.now.journal.book.tables call) }
@@ -69,7 +86,7 @@ impl<T: Terms> Desk<T> {
     }
 
     // What a line of values asks, or why it is refused by the sheet.
-    pub(crate) fn reply(
+    pub fn reply(
         &mut self,
         asked: Result<Request, SheetFault>,
     ) -> Result<Result<usize, Cause>, AllocError>

@@ -9,4 +9,6 @@ mod writing;
 
 pub use answer::Answer;
 pub use cause::{Cause, Layer, LineFault};
+pub use desk::Desk;
+pub use opening::{Head, headed};
 pub use sheet::{Answered, answer_sheet};

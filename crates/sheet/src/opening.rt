@@ -1,8 +1,8 @@
 // The head of a sheet: its length and its names line.
 ghost use Rattle.std.specs.Prelude.{◌≡◌, Ok, Err, MatchResult};
-ghost use Rattle.sheet.specs.Sheets.{opened};
+ghost use Rattle.sheet.specs.Sheets.{headed, opened};
 ghost use Rattle.sheet.specs.declared.cause.Cause.TheVariants.{Sheet};
-ghost use Rattle.text.specs.Lines.{lines_from};
+ghost use Rattle.text.specs.Lines.{lines, lines_from};
 
 use crate::cause::{Cause, LineFault};
 use rows::{Names, SheetFault};
@@ -11,11 +11,11 @@ use text::Reader;
 // How many bytes a sheet may have.
 const MOST_BYTES: usize = 65_536;
 
-// Where the columns stand, and the reader behind the names line.
+// Where the columns stand, and the reader of the lines below the names line.
 #[derive(Drop)]
-pub(crate) struct Head<'a> {
-    pub(crate) names: Names,
-    pub(crate) rows: Reader<'a>,
+pub struct Head<'a> {
+    pub names: Names,
+    pub rows: Reader<'a>,
 }
 
 // A fault of the sheet in a line.
@@ -25,13 +25,10 @@ fn fault_at(fault: SheetFault, line: usize) -> LineFault
     Cause::from(fault).at(line)
 }
 
-// The head of a sheet, or why it is refused.
-pub(crate) fn opened(sheet: &[u8]) -> Result<Head<'_>, LineFault>
-    ensures { MatchResult result (λ o. (opened sheet.now ≡ Ok (o.names.places, lines_from o.rows.at o.rows.bytes.now)) × (o.rows.line ≡ 1)) (λ fault. opened sheet.now ≡ Err fault) }
+// The head of a sheet of any length: its names line, or why it has none.
+pub fn headed(sheet: &[u8]) -> Result<Head<'_>, LineFault>
+    ensures { MatchResult result (λ o. (headed (lines sheet.now) ≡ Ok (o.names.places, lines_from o.rows.at o.rows.bytes.now)) × (o.rows.line ≡ 1)) (λ fault. headed (lines sheet.now) ≡ Err fault) }
 {
-    if sheet.len() > MOST_BYTES {
-        return Err(fault_at(SheetFault::TooLong, 0));
-    }
     let mut rows = Reader::new(sheet);
     let Some(line) = rows.next_line() else {
         return Err(fault_at(SheetFault::ColumnNames, 1));
@@ -40,4 +37,14 @@ pub(crate) fn opened(sheet: &[u8]) -> Result<Head<'_>, LineFault>
         Ok(names) => Ok(Head { names, rows }),
         Err(fault) => Err(fault_at(fault, 1)),
     }
+}
+
+// The head of a sheet, or why it is refused.
+pub(crate) fn opened(sheet: &[u8]) -> Result<Head<'_>, LineFault>
+    ensures { MatchResult result (λ o. (opened sheet.now ≡ Ok (o.names.places, lines_from o.rows.at o.rows.bytes.now)) × (o.rows.line ≡ 1)) (λ fault. opened sheet.now ≡ Err fault) }
+{
+    if sheet.len() > MOST_BYTES {
+        return Err(fault_at(SheetFault::TooLong, 0));
+    }
+    headed(sheet)
 }

@@ -9,15 +9,9 @@ use crate::desk::Desk;
 use crate::opening::{Head, opened};
 use crate::writing::{write_answer, write_reply};
 use journal::Journal;
-use ledger::Payment;
 use products::Product;
 use std::alloc::{AllocError, Global};
 use terms::Terms;
-
-const NO_PAYMENT: Payment = Payment {
-    account: 0,
-    cents: 0,
-};
 
 // The answers to a sheet, and the journal of the book at which its lines were called.
 #[derive(Drop)]
@@ -66,10 +60,7 @@ where
 {
     let mut text = String::new(heap);
     text.push_str("line,refusal,account,amount\n")?;
-    let mut desk = Desk {
-        journal,
-        list: [NO_PAYMENT; 32],
-    };
+    let mut desk = Desk::new(journal);
     match opened(sheet) {
         Ok(head) => desk.answer_rows(product, head, &mut text)?,
         Err(fault) => write_answer(&mut text, Answer::refused(fault))?,

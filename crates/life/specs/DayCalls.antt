@@ -1,0 +1,25 @@
+-- The calls of a day that is advanced over. Assumes nothing.
+use Rattle.std.specs.Prelude.{ℕ, Bool, List, [], ◌∷◌, ◌++◌, ℤ, Option, Some, None, cond, ◌&&◌, is_some, is_none, unwrap_or}
+use Rattle.ledger.specs.State.{State, class_now}
+use Rattle.ledger.specs.declared.call.Call.{Call}
+use Rattle.ledger.specs.declared.call.Call.TheVariants.{Mark, Settle, Close}
+use Rattle.rows.specs.Requests.{room}
+use Rattle.std.specs.List.{range_with_len, filter_map}
+use Rattle.terms.specs.Meaning.{Meaning, tradable}
+
+-- a class is tradable and has no price of the day
+abbrev pub unmarked : Meaning → State → ℕ → Bool
+unmarked w s c = tradable (class_now w s c) && is_none (s.today c)
+
+module _ (w : Meaning) (s : State) (price : ℤ) where
+  -- the months that await it are settled at the given price
+  abbrev pub settle_calls : List Call
+  settle_calls = cond (is_some (s.last w.settling)) (Settle price room ∷ []) []
+
+  -- a tradable class without a price of the day is marked: at its last price, or at the given price where it has none
+  abbrev pub mark_call : ℕ → Option Call
+  mark_call c = cond (unmarked w s c) (Some (Mark c (unwrap_or (s.last c) price))) None
+
+  -- the day is closed last
+  abbrev pub day_calls : List Call
+  day_calls = settle_calls ++ (filter_map mark_call (range_with_len 0 w.classes) ++ (Close room ∷ []))

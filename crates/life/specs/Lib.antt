@@ -1,0 +1,4 @@
+pub mod DayCalls
+pub mod Paths
+pub mod Runs
+pub mod Told

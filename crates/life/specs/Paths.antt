@@ -1,0 +1,53 @@
+-- The path of an account: what it has after a close or a settle, and in which classes. Assumes nothing.
+use Rattle.std.specs.Prelude.{ℕ, ◌+◌, ◌-◌, List, [], ◌++◌, ℤ, Option, Some, None, ◌==◌, cond, codes, decimal, unsigned_abs, unwrap_or}
+use Rattle.std.specs.Fmt.{signed_decimal}
+use Rattle.std.specs.List.{flat_map, range_with_len}
+use Rattle.book.specs.Tables.{view}
+use Rattle.book.specs.declared.tables.Tables.{Tables}
+use Rattle.ledger.specs.Calls.{known}
+use Rattle.ledger.specs.Questions.{margins_refusal, margins}
+use Rattle.ledger.specs.State.{class_now, quantity_now}
+use Rattle.ledger.specs.declared.fault.Fault.{Fault}
+use Rattle.iso.specs.Written.{day_written, month_written}
+use Rattle.products.specs.Products.{class_name}
+use Rattle.products.specs.declared.product.Product.{Product}
+use Rattle.terms.specs.Meaning.{Meaning}
+use Rattle.terms.specs.declared.class_terms.ClassTerms.{ClassTerms}
+
+-- a price or margins, or nothing where there are none
+abbrev pub amount_or_blank : Option ℤ → List ℕ
+amount_or_blank None = []
+amount_or_blank (Some x) = signed_decimal x
+
+-- the margins, unless they are refused
+abbrev pub unless_refused : Option Fault → ℤ → Option ℤ
+unless_refused None x = Some x
+unless_refused (Some fault) x = None
+
+module _ (w : Meaning) (product : Product) (t : Tables) (a : ℕ) where
+  -- the day, the account, its cash and its margins
+  abbrev pub account_row : List ℕ
+  account_row =
+      codes "account," ++ (day_written t.day ++ (codes "," ++ (decimal a ++ (codes "," ++ (signed_decimal ((view t).cash a) ++ (codes "," ++ (amount_or_blank (unless_refused (margins_refusal w (view t) a) (margins w t.lines (view t) a)) ++ codes "\n")))))))
+
+  -- the day, the class, its first and last month, the quantity of one lot, the lots and the last price
+  abbrev pub position_row : ℕ → ClassTerms → List ℕ
+  position_row c here =
+      codes "position," ++ (day_written t.day ++ (codes "," ++ (unwrap_or (class_name product c) (codes "no class") ++ (codes "," ++ (month_written here.months.first ++ (codes "," ++ (month_written (here.months.first + (here.months.count - 1)) ++ (codes "," ++ (decimal (quantity_now w (view t) c) ++ (codes "," ++ (signed_decimal ((view t).lots a c) ++ (codes "," ++ (amount_or_blank ((view t).last c) ++ codes "\n")))))))))))))
+
+  -- a row for a class that the account holds
+  abbrev pub held_row : Option ClassTerms → ℕ → List ℕ
+  held_row None c = []
+  held_row (Some here) c = cond (unsigned_abs ((view t).lots a c) == 0) [] (position_row c here)
+
+  abbrev pub class_row : ℕ → List ℕ
+  class_row c = held_row (class_now w (view t) c) c
+
+  -- a row for the account, and one for each class that it holds
+  unfoldable pub path_text : List ℕ
+  path_text = account_row ++ flat_map class_row (range_with_len 0 w.classes)
+
+-- the path of the account that is followed, if one is and the book has it
+abbrev pub followed_text : Meaning → Product → Tables → Option ℕ → List ℕ
+followed_text w product t None = []
+followed_text w product t (Some a) = cond (known (view t) a) (path_text w product t a) []

@@ -1,0 +1,67 @@
+// The calls of a day that is advanced over.
+ghost use Rattle.std.specs.Prelude.{◌≡◌, ◌++◌, IfOk};
+ghost use Rattle.std.specs.List.{filter_map, range_with_len};
+ghost use Rattle.book.specs.Tables.{view};
+ghost use Rattle.life.specs.DayCalls.{unmarked, settle_calls, mark_call, day_calls};
+
+use book::Book;
+use ledger::Call;
+use std::alloc::{AllocError, Global};
+use terms::Terms;
+
+// The lines of the payment list that a desk lends.
+const ROOM: usize = 32;
+
+// Whether a class is tradable and has no price of the day.
+fn unmarked<T: Terms>(book: &Book<T>, class: u32) -> bool
+    ensures { result ≡ unmarked (T.meaning book.now.terms) (view book.now.tables) class }
+{
+    let tradable = book
+        .terms()
+        .class_on(book.day(), class)
+        .is_some_and(|here| here.tradable);
+    tradable && book.day_price(class).is_none()
+}
+
+// The mark of a class, if one is due.
+fn mark_call<T: Terms>(book: &Book<T>, class: u32, price: i32) -> Option<Call>
+    ensures { result ≡ mark_call (T.meaning book.now.terms) (view book.now.tables) price class }
+{
+    if !unmarked(book, class) {
+        return None;
+    }
+    let price = book.last_price(class).unwrap_or(price);
+    Some(Call::Mark { class, price })
+}
+
+// The settle, if the settling class awaits one.
+fn push_settle<T: Terms>(calls: &mut Vec<Call>, book: &Book<T>, price: i32) -> Result<(), AllocError>
+    ensures { IfOk result (λ u. calls.new.items ≡ calls.old.items ++ settle_calls (T.meaning book.now.terms) (view book.now.tables) price) }
+{
+    if book.last_price(book.terms().settling()).is_none() {
+        return Ok(());
+    }
+    calls.push(Call::Settle { price, room: ROOM })
+}
+
+// The marks that are due.
+fn push_marks<T: Terms>(calls: &mut Vec<Call>, book: &Book<T>, price: i32) -> Result<(), AllocError>
+    ensures { IfOk result (λ u. calls.new.items ≡ calls.old.items ++ filter_map (mark_call (T.meaning book.now.terms) (view book.now.tables) price) (range_with_len 0 (T.meaning book.now.terms).classes)) }
+{
+    calls.extend((0..book.terms().classes()).filter_map(|class| mark_call(book, class, price)))
+}
+
+// The calls of a day: the settle, the marks, the close.
+pub(crate) fn day_calls<T: Terms>(
+    heap: Global,
+    book: &Book<T>,
+    price: i32,
+) -> Result<Vec<Call>, AllocError>
+    ensures { IfOk result (λ calls. calls.items ≡ day_calls (T.meaning book.now.terms) (view book.now.tables) price) }
+{
+    let mut calls = Vec::new(heap);
+    push_settle(&mut calls, book, price)?;
+    push_marks(&mut calls, book, price)?;
+    calls.push(Call::Close { room: ROOM })?;
+    Ok(calls)
+}

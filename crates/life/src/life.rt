@@ -1,0 +1,192 @@
+// A book's life, and who tells it.
+ghost use Rattle.std.specs.Prelude.{◌≡◌, ◌+◌, ◌++◌, Ok, IfOk, string_bytes};
+ghost use Rattle.journal.specs.Lived.{Lived};
+ghost use Rattle.ledger.specs.declared.call.Call.{Call as Called};
+ghost use Rattle.life.specs.Paths.{followed_text};
+ghost use Rattle.life.specs.Runs.{run_at, moves, asked_run, accepts, calls_run, all_pass, day_run, day_passes, days_run, line_run, rows_run, sheet_run};
+ghost use Rattle.rows.specs.declared.request.Request.TheVariants.{Book as OfBook};
+ghost use Rattle.text.specs.Lines.{lines_from};
+
+use crate::day_calls::day_calls;
+use crate::path::Path;
+use crate::told::Opening;
+use ledger::Call;
+use products::Product;
+use rows::{Advance, Names, Request, SheetFault};
+use sheet::{Desk, Head, headed};
+use std::alloc::{AllocError, Global};
+use terms::Terms;
+
+// A desk at which calls are made, and what has been told of them.
+#[derive(Drop)]
+pub struct Life<T: Terms> {
+    pub desk: Desk<T>,
+    pub text: String,
+}
+
+// Tells the life of a product's book, and the path of an account, if one is followed.
+#[derive(Clone, Copy)]
+pub struct Teller {
+    pub product: Product,
+    pub followed: Option<u32>,
+}
+
+// Whether an account's path goes on after such a line, where it is accepted.
+fn moves(asked: Result<Request, SheetFault>) -> bool
+    ensures { result ≡ moves asked }
+{
+    matches!(asked, Ok(Request::Book(Call::Settle { .. } | Call::Close { .. })))
+}
+
+impl Teller {
+    // The path of the account that is followed.
+    fn tell_path<T: Terms>(self, life: &mut Life<T>) -> Result<(), AllocError>
+        ensures text { IfOk result (λ u. string_bytes life.new.text ≡ string_bytes life.old.text ++ followed_text (T.meaning life.old.desk.journal.book.terms) self.product life.old.desk.journal.book.tables self.followed) }
+        ensures same { life.new.desk ≡ life.old.desk }
+    {
+        let Some(account) = self.followed else {
+            return Ok(());
+        };
+        let path = Path {
+            product: self.product,
+            book: life.desk.journal.book(),
+            account,
+        };
+        path.write(&mut life.text)
+    }
+
+    // A line that asks this, told by its number: whether it is accepted.
+    #[tactic(auto, unfolding(crate::specs::Runs::asked_run))]
+    fn ask<T: Terms>(
+        self,
+        life: &mut Life<T>,
+        line: usize,
+        asked: Result<Request, SheetFault>,
+    ) -> Result<bool, AllocError>
+        ensures run { IfOk result (λ u. run_at (string_bytes life.new.text) life.new.desk.journal.book.tables life.new.desk.journal.entries.items ≡ asked_run (T.meaning life.old.desk.journal.book.terms) self.now.product self.now.followed line asked (run_at (string_bytes life.old.text) life.old.desk.journal.book.tables life.old.desk.journal.entries.items)) }
+        ensures accepted { (call : Called) → asked ≡ Ok (OfBook call) → IfOk result (λ a. a ≡ accepts (T.meaning life.old.desk.journal.book.terms) self.now.product self.now.followed call (run_at (string_bytes life.old.text) life.old.desk.journal.book.tables life.old.desk.journal.entries.items)) }
+        ensures same { IfOk result (λ u. (life.new.desk.journal.book.terms ≡ life.old.desk.journal.book.terms) × (life.new.desk.journal.month ≡ life.old.desk.journal.month)) }
+    {
+        let day = life.desk.journal.book().day();
+        let reply = life.desk.reply(asked)?;
+        let opening = Opening { line, day };
+        opening.tell_reply(&mut life.text, asked, reply, &life.desk.list)?;
+        if moves(asked) && reply.is_ok() {
+            self.tell_path(life)?;
+        }
+        Ok(reply.is_ok())
+    }
+
+    // Calls, up to the first that is refused: whether none is.
+    fn call_all<T: Terms>(
+        self,
+        life: &mut Life<T>,
+        line: usize,
+        calls: &[Call],
+    ) -> Result<bool, AllocError>
+        ensures run { IfOk result (λ u. run_at (string_bytes life.new.text) life.new.desk.journal.book.tables life.new.desk.journal.entries.items ≡ calls_run (T.meaning life.old.desk.journal.book.terms) self.now.product self.now.followed line calls.now (run_at (string_bytes life.old.text) life.old.desk.journal.book.tables life.old.desk.journal.entries.items)) }
+        ensures all { IfOk result (λ a. a ≡ all_pass (T.meaning life.old.desk.journal.book.terms) self.now.product self.now.followed line calls.now (run_at (string_bytes life.old.text) life.old.desk.journal.book.tables life.old.desk.journal.entries.items)) }
+        ensures same { IfOk result (λ u. (life.new.desk.journal.book.terms ≡ life.old.desk.journal.book.terms) × (life.new.desk.journal.month ≡ life.old.desk.journal.month)) }
+    {
+        for call in calls {
+            if !self.ask(life, line, Ok(Request::Book(*call)))? {
+                return Ok(false);
+            }
+        }
+        Ok(true)
+    }
+
+    // A day that is advanced over: whether none of its calls is refused.
+    fn advance_day<T: Terms>(
+        self,
+        heap: Global,
+        life: &mut Life<T>,
+        line: usize,
+        price: i32,
+    ) -> Result<bool, AllocError>
+        ensures run { IfOk result (λ u. run_at (string_bytes life.new.text) life.new.desk.journal.book.tables life.new.desk.journal.entries.items ≡ day_run (T.meaning life.old.desk.journal.book.terms) self.now.product self.now.followed line price (run_at (string_bytes life.old.text) life.old.desk.journal.book.tables life.old.desk.journal.entries.items)) }
+        ensures all { IfOk result (λ a. a ≡ day_passes (T.meaning life.old.desk.journal.book.terms) self.now.product self.now.followed line price (run_at (string_bytes life.old.text) life.old.desk.journal.book.tables life.old.desk.journal.entries.items)) }
+        ensures same { IfOk result (λ u. (life.new.desk.journal.book.terms ≡ life.old.desk.journal.book.terms) × (life.new.desk.journal.month ≡ life.old.desk.journal.month)) }
+    {
+        let calls = day_calls(heap, life.desk.journal.book(), price)?;
+        self.call_all(life, line, calls.as_slice())
+    }
+
+    // So many days, up to the first call that is refused.
+    fn advance<T: Terms>(
+        self,
+        heap: Global,
+        life: &mut Life<T>,
+        line: usize,
+        advance: Advance,
+    ) -> Result<(), AllocError>
+        ensures run { IfOk result (λ u. run_at (string_bytes life.new.text) life.new.desk.journal.book.tables life.new.desk.journal.entries.items ≡ days_run (T.meaning life.old.desk.journal.book.terms) self.now.product self.now.followed line advance.price advance.days (run_at (string_bytes life.old.text) life.old.desk.journal.book.tables life.old.desk.journal.entries.items)) }
+        ensures same { IfOk result (λ u. (life.new.desk.journal.book.terms ≡ life.old.desk.journal.book.terms) × (life.new.desk.journal.month ≡ life.old.desk.journal.month)) }
+    {
+        for _ in 0..advance.days {
+            if !self.advance_day(heap, life, line, advance.price)? {
+                return Ok(());
+            }
+        }
+        Ok(())
+    }
+
+    // A line of values.
+    fn line<T: Terms>(
+        self,
+        heap: Global,
+        life: &mut Life<T>,
+        names: &Names,
+        number: usize,
+        line: &[u8],
+    ) -> Result<(), AllocError>
+        ensures run { IfOk result (λ u. run_at (string_bytes life.new.text) life.new.desk.journal.book.tables life.new.desk.journal.entries.items ≡ line_run (T.meaning life.old.desk.journal.book.terms) self.now.product self.now.followed names.now.places number line.now (run_at (string_bytes life.old.text) life.old.desk.journal.book.tables life.old.desk.journal.entries.items)) }
+        ensures same { IfOk result (λ u. (life.new.desk.journal.book.terms ≡ life.old.desk.journal.book.terms) × (life.new.desk.journal.month ≡ life.old.desk.journal.month)) }
+    {
+        match names.advance(line) {
+            Some(Ok(advance)) => self.advance(heap, life, number, advance),
+            Some(Err(fault)) => self.ask(life, number, Err(fault)).map(|_| ()),
+            None => self.ask(life, number, names.request(self.product, line)).map(|_| ()),
+        }
+    }
+
+    // The lines of values, one after the other.
+    fn rows<T: Terms>(
+        self,
+        heap: Global,
+        life: &mut Life<T>,
+        head: Head<'_>,
+    ) -> Result<(), AllocError>
+        ensures run { IfOk result (λ u. run_at (string_bytes life.new.text) life.new.desk.journal.book.tables life.new.desk.journal.entries.items ≡ rows_run (T.meaning life.old.desk.journal.book.terms) self.now.product self.now.followed head.entry.names.places (head.entry.rows.line + 1) (lines_from head.entry.rows.at head.entry.rows.bytes.now) (run_at (string_bytes life.old.text) life.old.desk.journal.book.tables life.old.desk.journal.entries.items)) }
+        ensures same { IfOk result (λ u. (life.new.desk.journal.book.terms ≡ life.old.desk.journal.book.terms) × (life.new.desk.journal.month ≡ life.old.desk.journal.month)) }
+    {
+        let Head { names, mut rows } = head;
+        while let Some(line) = rows.next_line() {
+            self.line(heap, life, &names, rows.line(), line)?;
+        }
+        Ok(())
+    }
+
+    // A whole sheet, of any length: its calls are made at the desk, and told behind what was told before.
+    pub fn tell<T: Terms>(
+        self,
+        heap: Global,
+        life: &mut Life<T>,
+        sheet: &[u8],
+    ) -> Result<(), AllocError>
+        ensures run { IfOk result (λ u. run_at (string_bytes life.new.text) life.new.desk.journal.book.tables life.new.desk.journal.entries.items ≡ sheet_run (T.meaning life.old.desk.journal.book.terms) self.now.product self.now.followed sheet.now (run_at (string_bytes life.old.text) life.old.desk.journal.book.tables life.old.desk.journal.entries.items)) }
+        ensures law { IfOk result (λ u. ∥ Lived (T.meaning life.old.desk.journal.book.terms) life.old.desk.journal.month life.new.desk.journal.entries.items life.new.desk.journal.book.tables ∥₁) }
+        ensures same { IfOk result (λ u. (life.new.desk.journal.book.terms ≡ life.old.desk.journal.book.terms) × (life.new.desk.journal.month ≡ life.old.desk.journal.month)) }
+    {
+        match headed(sheet) {
+            Ok(head) => self.rows(heap, life, head),
+            Err(fault) => {
+                let opening = Opening {
+                    line: fault.line,
+                    day: life.desk.journal.book().day(),
+                };
+                opening.tell_refusal(&mut life.text, fault.cause)
+            }
+        }
+    }
+}

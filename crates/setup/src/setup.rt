@@ -1,0 +1,72 @@
+// The arguments of a life.
+ghost use Rattle.std.specs.Prelude.{◌≡◌, Ok, MatchResult, Option, List, ℕ, map, string_bytes, ok_or};
+ghost use Rattle.std.specs.Option.{option_map};
+ghost use Rattle.setup.specs.Setups.{month_named, followed_named, setup_of, Refuses};
+
+use crate::fault::ArgumentFault;
+use crate::intervals::intervals_in;
+use crate::traded::Traded;
+use std::alloc::Global;
+use text::digits;
+
+// What the arguments ask for, but for the file of closed days.
+#[derive(Drop)]
+pub struct Setup {
+    pub traded: Traded,
+    pub month: u32,
+    pub accounts: u32,
+    pub intervals: Vec<u32>,
+    pub followed: Option<u32>,
+}
+
+// The month of a word YYYY-MM, if it is one from 2000 on.
+fn month_named(word: &[u8]) -> Option<u32>
+    ensures { result ≡ month_named word.now }
+{
+    if word.len() != 7 || word[4] != b'-' {
+        return None;
+    }
+    let year = digits(&word[..4])?;
+    let month = digits(&word[5..])?;
+    if year < 2000 || !(1..=12).contains(&month) {
+        return None;
+    }
+    Some(12 * (year - 2000) + (month - 1))
+}
+
+// The account that a word names, which must be one of so many.
+fn followed_named(accounts: u32, word: Option<&String>) -> Result<Option<u32>, ArgumentFault>
+    ensures { result ≡ followed_named accounts (option_map (λ w. string_bytes w.now) word) }
+{
+    let Some(word) = word else {
+        return Ok(None);
+    };
+    match digits(word.as_bytes()) {
+        Some(account) if account < accounts => Ok(Some(account)),
+        _ => Err(ArgumentFault::Followed),
+    }
+}
+
+impl Setup {
+    // What the words after the program's name ask for. The fifth names the file of closed days, which is not read here.
+    #[tactic(auto, unfolding(crate::specs::Setups::setup_of))]
+    pub fn of(heap: Global, words: &[String]) -> Result<Setup, ArgumentFault>
+        ensures { MatchResult result (λ s. setup_of (map (λ w. string_bytes w) words.now) ≡ Ok (record { traded = s.traded; month = s.month; accounts = s.accounts; intervals = s.intervals.items; followed = s.followed })) (Refuses (setup_of (map (λ w. string_bytes w) words.now))) }
+    {
+        if words.len() < 5 || words.len() > 6 {
+            return Err(ArgumentFault::Count);
+        }
+        let traded = Traded::of(words[0].as_bytes()).ok_or(ArgumentFault::Product)?;
+        let month = month_named(words[1].as_bytes()).ok_or(ArgumentFault::Month)?;
+        let accounts = digits(words[2].as_bytes()).ok_or(ArgumentFault::Accounts)?;
+        let intervals = intervals_in(heap, words[3].as_bytes())?;
+        let followed = followed_named(accounts, words.get(5))?;
+        Ok(Setup {
+            traded,
+            month,
+            accounts,
+            intervals,
+            followed,
+        })
+    }
+}
