@@ -13,6 +13,7 @@ use Rattle.products.specs.Products.{class_name}
 use Rattle.products.specs.declared.product.Product.{Product}
 use Rattle.terms.specs.Meaning.{Meaning}
 use Rattle.terms.specs.declared.class_terms.ClassTerms.{ClassTerms}
+use Rattle.terms.specs.declared.class_terms.Months.{Months}
 
 -- a price or margins, or nothing where there are none
 abbrev pub amount_or_blank : Option ℤ → List ℕ
@@ -24,28 +25,38 @@ abbrev pub unless_refused : Option Fault → ℤ → Option ℤ
 unless_refused None x = Some x
 unless_refused (Some fault) x = None
 
-module _ (w : Meaning) (product : Product) (t : Tables) (a : ℕ) where
+-- the first and the last month of a class
+abbrev pub span_written : Months → List ℕ
+span_written months = month_written months.first ++ (codes "," ++ month_written (months.first + (months.count - 1)))
+
+-- the quantity of one lot, the lots and the last price
+abbrev pub holding_written : ℕ → ℤ → Option ℤ → List ℕ
+holding_written quantity lots price =
+    decimal quantity ++ (codes "," ++ (signed_decimal lots ++ (codes "," ++ amount_or_blank price)))
+
+module _ (w : Meaning) (product : Product) (t : Tables) where
   -- the day, the account, its cash and its margins
-  abbrev pub account_row : List ℕ
-  account_row =
+  abbrev pub account_row : ℕ → List ℕ
+  account_row a =
       codes "account," ++ (day_written t.day ++ (codes "," ++ (decimal a ++ (codes "," ++ (signed_decimal ((view t).cash a) ++ (codes "," ++ (amount_or_blank (unless_refused (margins_refusal w (view t) a) (margins w t.lines (view t) a)) ++ codes "\n")))))))
 
   -- the day, the class, its first and last month, the quantity of one lot, the lots and the last price
-  abbrev pub position_row : ℕ → ClassTerms → List ℕ
-  position_row c here =
-      codes "position," ++ (day_written t.day ++ (codes "," ++ (unwrap_or (class_name product c) (codes "no class") ++ (codes "," ++ (month_written here.months.first ++ (codes "," ++ (month_written (here.months.first + (here.months.count - 1)) ++ (codes "," ++ (decimal (quantity_now w (view t) c) ++ (codes "," ++ (signed_decimal ((view t).lots a c) ++ (codes "," ++ (amount_or_blank ((view t).last c) ++ codes "\n")))))))))))))
+  abbrev pub position_row : ℕ → Months → ℤ → List ℕ
+  position_row c months lots =
+      codes "position," ++ (day_written t.day ++ (codes "," ++ (unwrap_or (class_name product c) (codes "no class") ++ (codes "," ++ (span_written months ++ (codes "," ++ (holding_written (quantity_now w (view t) c) lots ((view t).last c) ++ codes "\n")))))))
 
-  -- a row for a class that the account holds
-  abbrev pub held_row : Option ClassTerms → ℕ → List ℕ
-  held_row None c = []
-  held_row (Some here) c = cond (unsigned_abs ((view t).lots a c) == 0) [] (position_row c here)
+  -- a row for a class, if the account holds lots in it
+  abbrev pub row_of : Option ClassTerms → ℕ → ℤ → List ℕ
+  row_of None c lots = []
+  row_of (Some here) c lots = position_row c here.months lots
 
-  abbrev pub class_row : ℕ → List ℕ
-  class_row c = held_row (class_now w (view t) c) c
+  abbrev pub class_row : ℕ → ℕ → List ℕ
+  class_row a c =
+      cond (unsigned_abs ((view t).lots a c) == 0) [] (row_of (class_now w (view t) c) c ((view t).lots a c))
 
   -- a row for the account, and one for each class that it holds
-  unfoldable pub path_text : List ℕ
-  path_text = account_row ++ flat_map class_row (range_with_len 0 w.classes)
+  unfoldable pub path_text : ℕ → List ℕ
+  path_text a = account_row a ++ flat_map (class_row a) (range_with_len 0 w.classes)
 
 -- the path of the account that is followed, if one is and the book has it
 abbrev pub followed_text : Meaning → Product → Tables → Option ℕ → List ℕ

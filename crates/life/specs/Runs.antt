@@ -52,7 +52,7 @@ module _ (w : Meaning) (product : Product) (followed : Option ℕ) where
   unfoldable pub asked_run : ℕ → Result Request SheetFault → Run → Run
   asked_run n asked r = record {
     text =
-      r.text ++ (reply_told n r.tables.day asked (reply w r.tables asked) ++ cond (moves asked && is_ok (reply w r.tables asked)) (followed_text w product (left w r.tables asked) followed) []);
+        r.text ++ (reply_told n r.tables.day asked (reply w r.tables asked) ++ cond (moves asked && is_ok (reply w r.tables asked)) (followed_text w product (left w r.tables asked) followed) []);
     tables = left w r.tables asked;
     entries = r.entries ++ noted w r.tables asked;
   }

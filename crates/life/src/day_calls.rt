@@ -1,8 +1,8 @@
 // The calls of a day that is advanced over.
 ghost use Rattle.std.specs.Prelude.{◌≡◌, ◌++◌, IfOk};
-ghost use Rattle.std.specs.List.{filter_map, range_with_len};
+ghost use Rattle.std.specs.List.{flat_map, range_with_len};
 ghost use Rattle.book.specs.Tables.{view};
-ghost use Rattle.life.specs.DayCalls.{unmarked, settle_calls, mark_call, day_calls};
+ghost use Rattle.life.specs.DayCalls.{unmarked, settle_calls, mark_calls, day_calls};
 
 use book::Book;
 use ledger::Call;
@@ -24,31 +24,43 @@ fn unmarked<T: Terms>(book: &Book<T>, class: u32) -> bool
 }
 
 // The mark of a class, if one is due.
-fn mark_call<T: Terms>(book: &Book<T>, class: u32, price: i32) -> Option<Call>
-    ensures { result ≡ mark_call (T.meaning book.now.terms) (view book.now.tables) price class }
+fn push_mark<T: Terms>(
+    calls: &mut Vec<Call>,
+    book: &Book<T>,
+    class: u32,
+    price: i32,
+) -> Result<(), AllocError>
+    ensures { IfOk result (λ u. calls.new.items ≡ calls.old.items ++ mark_calls (T.meaning book.now.terms) (view book.now.tables) price class) }
 {
-    if !unmarked(book, class) {
-        return None;
+    if unmarked(book, class) {
+        let price = book.last_price(class).unwrap_or(price);
+        calls.push(Call::Mark { class, price })?;
     }
-    let price = book.last_price(class).unwrap_or(price);
-    Some(Call::Mark { class, price })
+    Ok(())
 }
 
 // The settle, if the settling class awaits one.
-fn push_settle<T: Terms>(calls: &mut Vec<Call>, book: &Book<T>, price: i32) -> Result<(), AllocError>
+fn push_settle<T: Terms>(
+    calls: &mut Vec<Call>,
+    book: &Book<T>,
+    price: i32,
+) -> Result<(), AllocError>
     ensures { IfOk result (λ u. calls.new.items ≡ calls.old.items ++ settle_calls (T.meaning book.now.terms) (view book.now.tables) price) }
 {
-    if book.last_price(book.terms().settling()).is_none() {
-        return Ok(());
+    if book.last_price(book.terms().settling()).is_some() {
+        calls.push(Call::Settle { price, room: ROOM })?;
     }
-    calls.push(Call::Settle { price, room: ROOM })
+    Ok(())
 }
 
 // The marks that are due.
 fn push_marks<T: Terms>(calls: &mut Vec<Call>, book: &Book<T>, price: i32) -> Result<(), AllocError>
-    ensures { IfOk result (λ u. calls.new.items ≡ calls.old.items ++ filter_map (mark_call (T.meaning book.now.terms) (view book.now.tables) price) (range_with_len 0 (T.meaning book.now.terms).classes)) }
+    ensures { IfOk result (λ u. calls.new.items ≡ calls.old.items ++ flat_map (mark_calls (T.meaning book.now.terms) (view book.now.tables) price) (range_with_len 0 (T.meaning book.now.terms).classes)) }
 {
-    calls.extend((0..book.terms().classes()).filter_map(|class| mark_call(book, class, price)))
+    for class in 0..book.terms().classes() {
+        push_mark(calls, book, class, price)?;
+    }
+    Ok(())
 }
 
 // The calls of a day: the settle, the marks, the close.

@@ -35,7 +35,10 @@ pub struct Teller {
 fn moves(asked: Result<Request, SheetFault>) -> bool
     ensures { result ≡ moves asked }
 {
-    matches!(asked, Ok(Request::Book(Call::Settle { .. } | Call::Close { .. })))
+    matches!(
+        asked,
+        Ok(Request::Book(Call::Settle { .. } | Call::Close { .. }))
+    )
 }
 
 impl Teller {
@@ -63,8 +66,8 @@ impl Teller {
         line: usize,
         asked: Result<Request, SheetFault>,
     ) -> Result<bool, AllocError>
-        ensures run { IfOk result (λ u. run_at (string_bytes life.new.text) life.new.desk.journal.book.tables life.new.desk.journal.entries.items ≡ asked_run (T.meaning life.old.desk.journal.book.terms) self.now.product self.now.followed line asked (run_at (string_bytes life.old.text) life.old.desk.journal.book.tables life.old.desk.journal.entries.items)) }
-        ensures accepted { (call : Called) → asked ≡ Ok (OfBook call) → IfOk result (λ a. a ≡ accepts (T.meaning life.old.desk.journal.book.terms) self.now.product self.now.followed call (run_at (string_bytes life.old.text) life.old.desk.journal.book.tables life.old.desk.journal.entries.items)) }
+        ensures run { IfOk result (λ u. run_at (string_bytes life.new.text) life.new.desk.journal.book.tables life.new.desk.journal.entries.items ≡ asked_run (T.meaning life.old.desk.journal.book.terms) self.product self.followed line asked (run_at (string_bytes life.old.text) life.old.desk.journal.book.tables life.old.desk.journal.entries.items)) }
+        ensures accepted { (call : Called) → asked ≡ Ok (OfBook call) → IfOk result (λ a. a ≡ accepts (T.meaning life.old.desk.journal.book.terms) self.product self.followed call (run_at (string_bytes life.old.text) life.old.desk.journal.book.tables life.old.desk.journal.entries.items)) }
         ensures same { IfOk result (λ u. (life.new.desk.journal.book.terms ≡ life.old.desk.journal.book.terms) × (life.new.desk.journal.month ≡ life.old.desk.journal.month)) }
     {
         let day = life.desk.journal.book().day();
@@ -84,8 +87,8 @@ impl Teller {
         line: usize,
         calls: &[Call],
     ) -> Result<bool, AllocError>
-        ensures run { IfOk result (λ u. run_at (string_bytes life.new.text) life.new.desk.journal.book.tables life.new.desk.journal.entries.items ≡ calls_run (T.meaning life.old.desk.journal.book.terms) self.now.product self.now.followed line calls.now (run_at (string_bytes life.old.text) life.old.desk.journal.book.tables life.old.desk.journal.entries.items)) }
-        ensures all { IfOk result (λ a. a ≡ all_pass (T.meaning life.old.desk.journal.book.terms) self.now.product self.now.followed line calls.now (run_at (string_bytes life.old.text) life.old.desk.journal.book.tables life.old.desk.journal.entries.items)) }
+        ensures run { IfOk result (λ u. run_at (string_bytes life.new.text) life.new.desk.journal.book.tables life.new.desk.journal.entries.items ≡ calls_run (T.meaning life.old.desk.journal.book.terms) self.product self.followed line calls.now (run_at (string_bytes life.old.text) life.old.desk.journal.book.tables life.old.desk.journal.entries.items)) }
+        ensures all { IfOk result (λ a. a ≡ all_pass (T.meaning life.old.desk.journal.book.terms) self.product self.followed line calls.now (run_at (string_bytes life.old.text) life.old.desk.journal.book.tables life.old.desk.journal.entries.items)) }
         ensures same { IfOk result (λ u. (life.new.desk.journal.book.terms ≡ life.old.desk.journal.book.terms) × (life.new.desk.journal.month ≡ life.old.desk.journal.month)) }
     {
         for call in calls {
@@ -102,13 +105,13 @@ impl Teller {
         heap: Global,
         life: &mut Life<T>,
         line: usize,
-        price: i32,
+        advance: Advance,
     ) -> Result<bool, AllocError>
-        ensures run { IfOk result (λ u. run_at (string_bytes life.new.text) life.new.desk.journal.book.tables life.new.desk.journal.entries.items ≡ day_run (T.meaning life.old.desk.journal.book.terms) self.now.product self.now.followed line price (run_at (string_bytes life.old.text) life.old.desk.journal.book.tables life.old.desk.journal.entries.items)) }
-        ensures all { IfOk result (λ a. a ≡ day_passes (T.meaning life.old.desk.journal.book.terms) self.now.product self.now.followed line price (run_at (string_bytes life.old.text) life.old.desk.journal.book.tables life.old.desk.journal.entries.items)) }
+        ensures run { IfOk result (λ u. run_at (string_bytes life.new.text) life.new.desk.journal.book.tables life.new.desk.journal.entries.items ≡ day_run (T.meaning life.old.desk.journal.book.terms) self.product self.followed line advance.price (run_at (string_bytes life.old.text) life.old.desk.journal.book.tables life.old.desk.journal.entries.items)) }
+        ensures all { IfOk result (λ a. a ≡ day_passes (T.meaning life.old.desk.journal.book.terms) self.product self.followed line advance.price (run_at (string_bytes life.old.text) life.old.desk.journal.book.tables life.old.desk.journal.entries.items)) }
         ensures same { IfOk result (λ u. (life.new.desk.journal.book.terms ≡ life.old.desk.journal.book.terms) × (life.new.desk.journal.month ≡ life.old.desk.journal.month)) }
     {
-        let calls = day_calls(heap, life.desk.journal.book(), price)?;
+        let calls = day_calls(heap, life.desk.journal.book(), advance.price)?;
         self.call_all(life, line, calls.as_slice())
     }
 
@@ -120,11 +123,11 @@ impl Teller {
         line: usize,
         advance: Advance,
     ) -> Result<(), AllocError>
-        ensures run { IfOk result (λ u. run_at (string_bytes life.new.text) life.new.desk.journal.book.tables life.new.desk.journal.entries.items ≡ days_run (T.meaning life.old.desk.journal.book.terms) self.now.product self.now.followed line advance.price advance.days (run_at (string_bytes life.old.text) life.old.desk.journal.book.tables life.old.desk.journal.entries.items)) }
+        ensures run { IfOk result (λ u. run_at (string_bytes life.new.text) life.new.desk.journal.book.tables life.new.desk.journal.entries.items ≡ days_run (T.meaning life.old.desk.journal.book.terms) self.product self.followed line advance.price advance.days (run_at (string_bytes life.old.text) life.old.desk.journal.book.tables life.old.desk.journal.entries.items)) }
         ensures same { IfOk result (λ u. (life.new.desk.journal.book.terms ≡ life.old.desk.journal.book.terms) × (life.new.desk.journal.month ≡ life.old.desk.journal.month)) }
     {
         for _ in 0..advance.days {
-            if !self.advance_day(heap, life, line, advance.price)? {
+            if !self.advance_day(heap, life, line, advance)? {
                 return Ok(());
             }
         }
@@ -140,13 +143,15 @@ impl Teller {
         number: usize,
         line: &[u8],
     ) -> Result<(), AllocError>
-        ensures run { IfOk result (λ u. run_at (string_bytes life.new.text) life.new.desk.journal.book.tables life.new.desk.journal.entries.items ≡ line_run (T.meaning life.old.desk.journal.book.terms) self.now.product self.now.followed names.now.places number line.now (run_at (string_bytes life.old.text) life.old.desk.journal.book.tables life.old.desk.journal.entries.items)) }
+        ensures run { IfOk result (λ u. run_at (string_bytes life.new.text) life.new.desk.journal.book.tables life.new.desk.journal.entries.items ≡ line_run (T.meaning life.old.desk.journal.book.terms) self.product self.followed names.now.places number line.now (run_at (string_bytes life.old.text) life.old.desk.journal.book.tables life.old.desk.journal.entries.items)) }
         ensures same { IfOk result (λ u. (life.new.desk.journal.book.terms ≡ life.old.desk.journal.book.terms) × (life.new.desk.journal.month ≡ life.old.desk.journal.month)) }
     {
         match names.advance(line) {
             Some(Ok(advance)) => self.advance(heap, life, number, advance),
             Some(Err(fault)) => self.ask(life, number, Err(fault)).map(|_| ()),
-            None => self.ask(life, number, names.request(self.product, line)).map(|_| ()),
+            None => self
+                .ask(life, number, names.request(self.product, line))
+                .map(|_| ()),
         }
     }
 
@@ -157,7 +162,7 @@ impl Teller {
         life: &mut Life<T>,
         head: Head<'_>,
     ) -> Result<(), AllocError>
-        ensures run { IfOk result (λ u. run_at (string_bytes life.new.text) life.new.desk.journal.book.tables life.new.desk.journal.entries.items ≡ rows_run (T.meaning life.old.desk.journal.book.terms) self.now.product self.now.followed head.entry.names.places (head.entry.rows.line + 1) (lines_from head.entry.rows.at head.entry.rows.bytes.now) (run_at (string_bytes life.old.text) life.old.desk.journal.book.tables life.old.desk.journal.entries.items)) }
+        ensures run { IfOk result (λ u. run_at (string_bytes life.new.text) life.new.desk.journal.book.tables life.new.desk.journal.entries.items ≡ rows_run (T.meaning life.old.desk.journal.book.terms) self.product self.followed head.entry.names.places (head.entry.rows.line + 1) (lines_from head.entry.rows.at head.entry.rows.bytes.now) (run_at (string_bytes life.old.text) life.old.desk.journal.book.tables life.old.desk.journal.entries.items)) }
         ensures same { IfOk result (λ u. (life.new.desk.journal.book.terms ≡ life.old.desk.journal.book.terms) × (life.new.desk.journal.month ≡ life.old.desk.journal.month)) }
     {
         let Head { names, mut rows } = head;
@@ -174,7 +179,7 @@ impl Teller {
         life: &mut Life<T>,
         sheet: &[u8],
     ) -> Result<(), AllocError>
-        ensures run { IfOk result (λ u. run_at (string_bytes life.new.text) life.new.desk.journal.book.tables life.new.desk.journal.entries.items ≡ sheet_run (T.meaning life.old.desk.journal.book.terms) self.now.product self.now.followed sheet.now (run_at (string_bytes life.old.text) life.old.desk.journal.book.tables life.old.desk.journal.entries.items)) }
+        ensures run { IfOk result (λ u. run_at (string_bytes life.new.text) life.new.desk.journal.book.tables life.new.desk.journal.entries.items ≡ sheet_run (T.meaning life.old.desk.journal.book.terms) self.product self.followed sheet.now (run_at (string_bytes life.old.text) life.old.desk.journal.book.tables life.old.desk.journal.entries.items)) }
         ensures law { IfOk result (λ u. ∥ Lived (T.meaning life.old.desk.journal.book.terms) life.old.desk.journal.month life.new.desk.journal.entries.items life.new.desk.journal.book.tables ∥₁) }
         ensures same { IfOk result (λ u. (life.new.desk.journal.book.terms ≡ life.old.desk.journal.book.terms) × (life.new.desk.journal.month ≡ life.old.desk.journal.month)) }
     {

@@ -1,8 +1,9 @@
 // The path of an account, written behind what was told before.
-ghost use Rattle.std.specs.Prelude.{◌≡◌, ◌<◌, ◌++◌, ℤ, Option, IfOk, Some, string_bytes};
+ghost use Rattle.std.specs.Prelude.{◌≡◌, ◌+◌, ◌-◌, ◌<◌, ◌++◌, IfOk, Some, string_bytes};
 ghost use Rattle.book.specs.Tables.{view};
-ghost use Rattle.ledger.specs.State.{class_now};
-ghost use Rattle.life.specs.Paths.{amount_or_blank, account_row, position_row, held_row, class_row, path_text, followed_text};
+ghost use Rattle.ledger.specs.State.{quantity_now};
+ghost use Rattle.ledger.specs.Questions.{margins_refusal, margins as margins_of};
+ghost use Rattle.life.specs.Paths.{amount_or_blank, unless_refused, span_written, holding_written, account_row, position_row, class_row, path_text, followed_text};
 ghost use Rattle.std.specs.List.{flat_map, range_with_len};
 
 use book::Book;
@@ -29,6 +30,55 @@ impl fmt::Display for AmountOrBlank {
     }
 }
 
+// The last of a run of months.
+fn last_month(months: Months) -> u64
+    ensures { result ≡ months.first + (months.count - 1) }
+{
+    u64::from(months.first) + u64::from(months.count.saturating_sub(1))
+}
+
+// The first and the last of a run of months.
+#[derive(Clone, Copy)]
+struct Span {
+    months: Months,
+}
+
+impl fmt::Display for Span {
+    ghost output = { λ s. Some (span_written s.months) };
+
+    fn fmt<W: fmt::Write>(&self, f: &mut fmt::Formatter<W>) -> fmt::Result {
+        let first = IsoMonth {
+            month: u64::from(self.months.first),
+        };
+        let last = IsoMonth {
+            month: last_month(self.months),
+        };
+        write!(f, "{first},{last}")
+    }
+}
+
+// What an account holds in a class: the quantity of one lot, the lots and the last price.
+#[derive(Clone, Copy)]
+struct Holding {
+    quantity: u32,
+    lots: i32,
+    price: Option<i128>,
+}
+
+impl fmt::Display for Holding {
+    ghost output = { λ h. Some (holding_written h.quantity h.lots h.price) };
+
+    fn fmt<W: fmt::Write>(&self, f: &mut fmt::Formatter<W>) -> fmt::Result {
+        let Holding {
+            quantity,
+            lots,
+            price,
+        } = *self;
+        let price = AmountOrBlank { amount: price };
+        write!(f, "{quantity},{lots},{price}")
+    }
+}
+
 // An account of a book over a product.
 #[derive(Drop)]
 pub(crate) struct Path<'a, T: Terms> {
@@ -37,8 +87,53 @@ pub(crate) struct Path<'a, T: Terms> {
     pub(crate) account: u32,
 }
 
+// The last price of a class, if it has one.
+fn last_price<T: Terms>(book: &Book<T>, class: u32) -> Option<i128>
+    ensures { result ≡ (view book.now.tables).last class }
+{
+    book.last_price(class).map(i128::from)
+}
+
 impl<T: Terms> Path<'_, T> {
-    // The row of the account, if the book has it.
+    fn cash(&self) -> i64
+        requires { self.now.account < (view self.now.book.now.tables).accounts }
+        ensures { result ≡ (view self.now.book.now.tables).cash self.now.account }
+    {
+        match self.book.cash(self.account) {
+            Ok(cash) => cash,
+            Err(_) => 0,
+        }
+    }
+
+    // The margins, unless they are refused.
+    fn margins(&self) -> Option<i128>
+        ensures { result ≡ unless_refused (margins_refusal (T.meaning self.now.book.now.terms) (view self.now.book.now.tables) self.now.account) (margins_of (T.meaning self.now.book.now.terms) self.now.book.now.tables.lines (view self.now.book.now.tables) self.now.account) }
+    {
+        match self.book.margins(self.account) {
+            Ok(cents) => Some(cents),
+            Err(_) => None,
+        }
+    }
+
+    // The lots in a class.
+    fn lots(&self, class: u32) -> i32
+        requires { (self.now.account < (view self.now.book.now.tables).accounts) × (class < (T.meaning self.now.book.now.terms).classes) }
+        ensures { result ≡ (view self.now.book.now.tables).lots self.now.account class }
+    {
+        match self.book.holding(self.account, class) {
+            Ok(lots) => lots,
+            Err(_) => 0,
+        }
+    }
+
+    // The quantity of one lot in a class.
+    fn quantity(&self, class: u32) -> u32
+        ensures { result ≡ quantity_now (T.meaning self.now.book.now.terms) (view self.now.book.now.tables) class }
+    {
+        terms::quantity_of(self.book.terms(), self.book.day(), class)
+    }
+
+    // The row of the account.
     fn write_account(&self, text: &mut String) -> Result<(), AllocError>
         requires { self.now.account < (view self.now.book.now.tables).accounts }
         ensures { IfOk result (λ u. string_bytes text.new ≡ string_bytes text.old ++ account_row (T.meaning self.now.book.now.terms) self.now.product self.now.book.now.tables self.now.account) }
@@ -47,9 +142,9 @@ impl<T: Terms> Path<'_, T> {
             day: self.book.day(),
         };
         let account = self.account;
-        let cash = self.book.cash(account).unwrap_or(0);
+        let cash = self.cash();
         let margins = AmountOrBlank {
-            amount: self.book.margins(account).ok(),
+            amount: self.margins(),
         };
         writeln!(text, "account,{day},{account},{cash},{margins}")
     }
@@ -62,39 +157,39 @@ impl<T: Terms> Path<'_, T> {
         months: Months,
         lots: i32,
     ) -> Result<(), AllocError>
+        ensures { IfOk result (λ u. string_bytes text.new ≡ string_bytes text.old ++ position_row (T.meaning self.now.book.now.terms) self.now.product self.now.book.now.tables class months lots) }
     {
         let day = IsoDay {
             day: self.book.day(),
         };
         let name = self.product.class_text(class);
-        let from = u64::from(months.first);
-        let first = IsoMonth { month: from };
-        let last = IsoMonth {
-            month: from + u64::from(months.count.saturating_sub(1)),
+        let span = Span { months };
+        let holding = Holding {
+            quantity: self.quantity(class),
+            lots,
+            price: last_price(self.book, class),
         };
-        let quantity = terms::quantity_of(self.book.terms(), self.book.day(), class);
-        let price = AmountOrBlank {
-            amount: self.book.last_price(class).map(i128::from),
-        };
-        writeln!(
-            text,
-            "position,{day},{name},{first},{last},{quantity},{lots},{price}"
-        )
+        writeln!(text, "position,{day},{name},{span},{holding}")
     }
 
-    // The row of a class, if the account holds it.
+    // The row of a class, if the account holds lots in it.
     fn write_class(&self, text: &mut String, class: u32) -> Result<(), AllocError>
+        requires { (self.now.account < (view self.now.book.now.tables).accounts) × (class < (T.meaning self.now.book.now.terms).classes) }
         ensures { IfOk result (λ u. string_bytes text.new ≡ string_bytes text.old ++ class_row (T.meaning self.now.book.now.terms) self.now.product self.now.book.now.tables self.now.account class) }
     {
-        let lots = self.book.holding(self.account, class).unwrap_or(0);
+        let lots = self.lots(class);
+        if lots == 0 {
+            return Ok(());
+        }
         match self.book.terms().class_on(self.book.day(), class) {
-            Some(here) if lots != 0 => self.write_position(text, class, here.months, lots),
-            _ => Ok(()),
+            Some(here) => self.write_position(text, class, here.months, lots),
+            None => Ok(()),
         }
     }
 
     // The rows of all classes.
     fn write_classes(&self, text: &mut String) -> Result<(), AllocError>
+        requires { self.now.account < (view self.now.book.now.tables).accounts }
         ensures { IfOk result (λ u. string_bytes text.new ≡ string_bytes text.old ++ flat_map (class_row (T.meaning self.now.book.now.terms) self.now.product self.now.book.now.tables self.now.account) (range_with_len 0 (T.meaning self.now.book.now.terms).classes)) }
     {
         for class in 0..self.book.terms().classes() {

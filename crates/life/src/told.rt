@@ -59,7 +59,10 @@ impl Opening {
             return Ok(());
         }
         let by = payer(call);
-        writeln!(text, "{self}account {account} is paid {cents} cents by {by}")
+        writeln!(
+            text,
+            "{self}account {account} is paid {cents} cents by {by}"
+        )
     }
 
     fn tell_margins(self, text: &mut String, margins: Payment) -> Result<(), AllocError>
@@ -69,7 +72,12 @@ impl Opening {
         writeln!(text, "{self}account {account} has margins of {cents} cents")
     }
 
-    fn tell_amount(self, text: &mut String, request: Request, amount: Payment) -> Result<(), AllocError>
+    fn tell_amount(
+        self,
+        text: &mut String,
+        request: Request,
+        amount: Payment,
+    ) -> Result<(), AllocError>
         ensures { IfOk result (λ u. string_bytes text.new ≡ string_bytes text.old ++ amount_told self.line self.day request amount) }
     {
         match request {
@@ -78,13 +86,33 @@ impl Opening {
         }
     }
 
-    fn tell_amounts(self, text: &mut String, request: Request, amounts: &[Payment]) -> Result<(), AllocError>
+    fn tell_amounts(
+        self,
+        text: &mut String,
+        request: Request,
+        amounts: &[Payment],
+    ) -> Result<(), AllocError>
         ensures { IfOk result (λ u. string_bytes text.new ≡ string_bytes text.old ++ flat_map (amount_told self.line self.day request) amounts.now) }
     {
         for amount in amounts {
             self.tell_amount(text, request, *amount)?;
         }
         Ok(())
+    }
+
+    // What an accepted line is told.
+    fn tell_accepted(
+        self,
+        text: &mut String,
+        asked: Result<Request, SheetFault>,
+        amounts: &[Payment],
+    ) -> Result<(), AllocError>
+        ensures { IfOk result (λ u. string_bytes text.new ≡ string_bytes text.old ++ reply_told self.line self.day asked (Ok amounts.now)) }
+    {
+        match asked {
+            Ok(request) => self.tell_amounts(text, request, amounts),
+            Err(_) => Ok(()),
+        }
     }
 
     // A reply: a fault, or how many payments at the head of the list are told.
@@ -97,10 +125,9 @@ impl Opening {
     ) -> Result<(), AllocError>
         ensures { (told : Result (List Paid) Why) → MatchResult reply (λ n. told ≡ Ok (take n list.now)) (λ cause. told ≡ Err cause) → IfOk result (λ u. string_bytes text.new ≡ string_bytes text.old ++ reply_told self.line self.day asked told) }
     {
-        match (asked, reply) {
-            (Ok(request), Ok(count)) => self.tell_amounts(text, request, &list[..count.min(32)]),
-            (Err(_), Ok(_)) => Ok(()),
-            (_, Err(cause)) => self.tell_refusal(text, cause),
+        match reply {
+            Ok(count) => self.tell_accepted(text, asked, &list[..count.min(32)]),
+            Err(cause) => self.tell_refusal(text, cause),
         }
     }
 }

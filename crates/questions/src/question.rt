@@ -80,6 +80,7 @@ impl Refusal {
 impl fmt::Display for Refusal {
     ghost output = { λ refusal. Some (refusal_text refusal.cause) };
 
+    #[tactic(auto, unfolding(crate::specs::Questions::refusal_text))]
     fn fmt<W: fmt::Write>(&self, f: &mut fmt::Formatter<W>) -> fmt::Result {
         let layer = self.layer();
         let number = self.cause.number();

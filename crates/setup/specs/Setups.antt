@@ -1,5 +1,5 @@
 -- What the arguments of a life ask for. Assumes nothing.
-use Rattle.std.specs.Prelude.{◌≡◌, ℕ, ◌+◌, ◌-◌, ◌*◌, ◌&&◌, ◌==◌, Bool, List, [], ◌∷◌, Ok, Err, Some, None, Option, Result, cond, codes, bytes_eq, drop, take, length, map, max, nat_le, nat_lt, slice_get, slice_index, slice_index_or}
+use Rattle.std.specs.Prelude.{◌≡◌, ℕ, ◌+◌, ◌-◌, ◌*◌, ◌^◌, ◌&&◌, ◌==◌, List, [], ◌∷◌, Ok, Err, Some, None, Option, Result, cond, codes, bytes_eq, find, option_map, drop, take, length, map, max, min, nat_le, nat_lt, slice_get, slice_index, slice_index_or}
 use Rattle.coded.specs.declared.class_line.ClassLine.{ClassLine}
 use Rattle.products.specs.declared.product.Product.{Product}
 use Rattle.products.specs.declared.product.Product.TheVariants.{Power, Wheat as OfWheat}
@@ -9,32 +9,42 @@ use Rattle.setup.specs.declared.fault.ArgumentFault.TheVariants.{Product as NoPr
 use Rattle.setup.specs.declared.traded.Traded.{Traded}
 use Rattle.setup.specs.declared.traded.Traded.TheVariants.{Baseload, Peakload, Wheat}
 use Rattle.std.specs.List.{range_with_len}
-use Rattle.std.specs.Option.{option_map_or}
-use Rattle.std.specs.Result.{ok_or}
+use Rattle.std.specs.Option.{ok_or}
 use Rattle.text.specs.Numbers.{digits_value}
 
 -- ---- one argument each
 
+-- what is traded, by name
+abbrev pub traded_names : List (List ℕ × Traded)
+traded_names = (codes "baseload", Baseload) ∷ (codes "peakload", Peakload) ∷ (codes "wheat", Wheat) ∷ []
+
 abbrev pub traded_named : List ℕ → Option Traded
-traded_named name =
-    cond (bytes_eq name (codes "baseload")) (Some Baseload) (cond (bytes_eq name (codes "peakload")) (Some Peakload) (cond (bytes_eq name (codes "wheat")) (Some Wheat) None))
+traded_named name = option_map (λ row. row.1) (find (λ row. bytes_eq row.0 name) traded_names)
 
 abbrev pub product_of : Traded → Product
 product_of Baseload = Power
 product_of Peakload = Power
 product_of Wheat = OfWheat
 
--- the month of a year from 2000 on and a month of the year
+-- the month of a year from 2000 to 2099 and a month of the year
 abbrev pub month_by : Option ℕ → Option ℕ → Option ℕ
 month_by None month = None
 month_by (Some y) None = None
 month_by (Some y) (Some m) =
-    cond (nat_le 2000 y && (nat_le 1 m && nat_le m 12)) (Some (12 * (y - 2000) + (m - 1))) None
+    cond ((nat_le 2000 y && nat_lt y 2100) && (nat_le 1 m && nat_le m 12)) (Some (12 * (y - 2000) + (m - 1))) None
 
 -- four digits, a dash and two digits
 abbrev pub month_named : List ℕ → Option ℕ
 month_named word =
     cond (length word == 7 && slice_index word 4 == 45) (month_by (digits_value (take 4 word)) (digits_value (drop 5 word))) None
+
+-- an interval: a number that a class line has room for
+abbrev pub interval_or_none : Option ℕ → Option ℕ
+interval_or_none None = None
+interval_or_none (Some n) = cond (nat_le n 65535) (Some n) None
+
+abbrev pub interval_named : List ℕ → Option ℕ
+interval_named field = interval_or_none (digits_value field)
 
 -- a number in front of others, if there are all of them
 abbrev pub in_front : Option ℕ → Option (List ℕ) → Option (List ℕ)
@@ -44,7 +54,7 @@ in_front (Some n) (Some others) = Some (n ∷ others)
 
 unfoldable pub numbers_in : List (List ℕ) → Option (List ℕ)
 numbers_in [] = Some []
-numbers_in (field ∷ others) = in_front (digits_value field) (numbers_in others)
+numbers_in (field ∷ others) = in_front (interval_named field) (numbers_in others)
 
 -- the numbers between the commas of a word, if each is one
 abbrev pub intervals_named : List ℕ → Option (List ℕ)
@@ -110,4 +120,4 @@ class_line intervals c = record { class = c; interval = interval_at intervals c 
 
 -- a line for each class, and for each interval that is listed beyond them
 abbrev pub class_lines : ℕ → List ℕ → List ClassLine
-class_lines classes intervals = map (class_line intervals) (range_with_len 0 (max classes (length intervals)))
+class_lines classes intervals = map (class_line intervals) (range_with_len 0 (max classes (min (length intervals) (2 ^ 32 - 1))))

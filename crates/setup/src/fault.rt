@@ -40,9 +40,10 @@ impl fmt::Display for ArgumentFault {
     fn fmt<W: fmt::Write>(&self, f: &mut fmt::Formatter<W>) -> fmt::Result {
         let text = match self {
             ArgumentFault::Product => "argument 1 is not baseload, peakload or wheat",
-            ArgumentFault::Month => "argument 2 is no month of the form YYYY-MM from 2000 on",
+            ArgumentFault::Month => "argument 2 is no month of the form YYYY-MM from 2000 to 2099",
             ArgumentFault::Accounts => "argument 3 is no number of accounts",
-            ArgumentFault::Intervals => "argument 4 is no list of numbers with commas between them",
+            ArgumentFault::Intervals =>
+                "argument 4 is no list of numbers up to 65535 with commas between them",
             ArgumentFault::Followed => "argument 6 is no account of the book",
             ArgumentFault::Count => "there are not five or six arguments",
             ArgumentFault::NoMemory => "there is no memory for the arguments",

@@ -1,7 +1,6 @@
 // The margin intervals of the classes.
 ghost use Rattle.std.specs.Prelude.{◌≡◌, Some, IfOk, MatchResult, ok_or};
-ghost use Rattle.setup.specs.Setups.{intervals_named, class_line, class_lines, Refuses};
-ghost use Rattle.text.specs.Numbers.{digits_value};
+ghost use Rattle.setup.specs.Setups.{interval_named, intervals_named, class_line, class_lines, Refuses};
 ghost use Rattle.setup.specs.declared.fault.ArgumentFault.TheVariants.{Intervals};
 
 use crate::fault::ArgumentFault;
@@ -9,15 +8,18 @@ use coded::ClassLine;
 use std::alloc::{AllocError, Global};
 use text::digits;
 
-// An interval.
-fn interval_of(field: &[u8]) -> Result<u32, ArgumentFault>
-    ensures { result ≡ ok_or (digits_value field.now) Intervals }
+// An interval: a number that a class line has room for.
+fn interval_of(field: &[u8]) -> Result<u16, ArgumentFault>
+    ensures { result ≡ ok_or (interval_named field.now) Intervals }
 {
-    digits(field).ok_or(ArgumentFault::Intervals)
+    match digits(field) {
+        Some(number) if number <= 65_535 => Ok(number as u16),
+        _ => Err(ArgumentFault::Intervals),
+    }
 }
 
 // The numbers between the commas.
-pub(crate) fn intervals_in(heap: Global, word: &[u8]) -> Result<Vec<u32>, ArgumentFault>
+pub(crate) fn intervals_in(heap: Global, word: &[u8]) -> Result<Vec<u16>, ArgumentFault>
     ensures { MatchResult result (λ v. intervals_named word.now ≡ Some v.items) (λ f. Refuses (ok_or (intervals_named word.now) Intervals) f) }
 {
     let mut intervals = Vec::new(heap);
@@ -31,7 +33,7 @@ pub(crate) fn intervals_in(heap: Global, word: &[u8]) -> Result<Vec<u32>, Argume
 }
 
 // The line of a class: the last interval serves every class for which none is listed.
-fn class_line(intervals: &[u32], class: u32) -> ClassLine
+fn class_line(intervals: &[u16], class: u32) -> ClassLine
     ensures { result ≡ class_line intervals.now class }
 {
     let listed = intervals.get(class as usize).or(intervals.last());
@@ -45,7 +47,7 @@ fn class_line(intervals: &[u32], class: u32) -> ClassLine
 pub fn class_lines(
     heap: Global,
     classes: u32,
-    intervals: &[u32],
+    intervals: &[u16],
 ) -> Result<Vec<ClassLine>, AllocError>
     ensures { IfOk result (λ v. v.items ≡ class_lines classes intervals.now) }
 {

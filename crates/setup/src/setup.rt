@@ -1,6 +1,5 @@
 // The arguments of a life.
-ghost use Rattle.std.specs.Prelude.{◌≡◌, Ok, MatchResult, Option, List, ℕ, map, string_bytes, ok_or};
-ghost use Rattle.std.specs.Option.{option_map};
+ghost use Rattle.std.specs.Prelude.{◌≡◌, Ok, MatchResult, map, string_bytes, slice_get};
 ghost use Rattle.setup.specs.Setups.{month_named, followed_named, setup_of, Refuses};
 
 use crate::fault::ArgumentFault;
@@ -15,11 +14,11 @@ pub struct Setup {
     pub traded: Traded,
     pub month: u32,
     pub accounts: u32,
-    pub intervals: Vec<u32>,
+    pub intervals: Vec<u16>,
     pub followed: Option<u32>,
 }
 
-// The month of a word YYYY-MM, if it is one from 2000 on.
+// The month of a word YYYY-MM, if it is one from 2000 to 2099.
 fn month_named(word: &[u8]) -> Option<u32>
     ensures { result ≡ month_named word.now }
 {
@@ -28,17 +27,17 @@ fn month_named(word: &[u8]) -> Option<u32>
     }
     let year = digits(&word[..4])?;
     let month = digits(&word[5..])?;
-    if year < 2000 || !(1..=12).contains(&month) {
+    if !(2000..2100).contains(&year) || !(1..=12).contains(&month) {
         return None;
     }
     Some(12 * (year - 2000) + (month - 1))
 }
 
-// The account that a word names, which must be one of so many.
-fn followed_named(accounts: u32, word: Option<&String>) -> Result<Option<u32>, ArgumentFault>
-    ensures { result ≡ followed_named accounts (option_map (λ w. string_bytes w.now) word) }
+// The account that the sixth word names, if there is one. It must be one of so many.
+fn followed_in(words: &[String], accounts: u32) -> Result<Option<u32>, ArgumentFault>
+    ensures { result ≡ followed_named accounts (slice_get (map (λ w. string_bytes w) words.now) 5) }
 {
-    let Some(word) = word else {
+    let Some(word) = words.get(5) else {
         return Ok(None);
     };
     match digits(word.as_bytes()) {
@@ -60,7 +59,7 @@ impl Setup {
         let month = month_named(words[1].as_bytes()).ok_or(ArgumentFault::Month)?;
         let accounts = digits(words[2].as_bytes()).ok_or(ArgumentFault::Accounts)?;
         let intervals = intervals_in(heap, words[3].as_bytes())?;
-        let followed = followed_named(accounts, words.get(5))?;
+        let followed = followed_in(words, accounts)?;
         Ok(Setup {
             traded,
             month,

@@ -1,0 +1,3 @@
+pub mod Callings
+pub mod Lines
+pub mod Turns
