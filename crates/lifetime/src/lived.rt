@@ -21,7 +21,9 @@ pub fn live<T: Terms + Drop>(
     let journal = match Journal::open(heap, terms, setup.month, setup.accounts, lines.as_slice()) {
         Ok(journal) => journal,
         Err(refused) => {
-            let refusal = Refusal { cause: Cause::Book(refused.fault) };
+            let refusal = Refusal {
+                cause: Cause::Book(refused.fault),
+            };
             return Err(anyhow!("{refusal}"));
         }
     };
