@@ -38,11 +38,12 @@ pub fn live<T: Terms + Drop>(
         followed: setup.followed,
     };
     teller.tell(heap, &mut life, sheet.as_slice())?;
+    let Life { desk, mut text } = life;
     if let Some(account) = setup.followed {
-        reckoning::tell_sums(&mut life.text, life.desk.journal.book())?;
-        reckoning::tell_account(&mut life.text, &life.desk.journal, account)?;
+        reckoning::tell_sums(&mut text, desk.journal.book())?;
+        reckoning::tell_account(&mut text, &desk.journal, account)?;
     }
-    let text = life.text.as_str();
+    let text = text.as_str();
     print!(rt; "{text}")?;
     Ok(())
 }

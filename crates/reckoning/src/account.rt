@@ -1,10 +1,12 @@
 // Of one account.
-ghost use Rattle.std.specs.Prelude.{◌≡◌, ◌++◌, ◌<◌, IfOk, Some, reverse, string_bytes};
+ghost use Rattle.std.specs.Prelude.{◌≡◌, ◌++◌, ◌<◌, IfOk, Some, None, reverse, string_bytes};
 ghost use Rattle.book.specs.Tables.{view};
 ghost use Rattle.journal.specs.Lived.{Lived};
 ghost use Rattle.journal.specs.Statements.{States};
-ghost use Rattle.reckoning.specs.Reckonings.{settled_told, month_told, month_text, cash_text, account_text, known_text};
-ghost use Rattle.std.specs.List.{flat_map, range_with_len};
+ghost use Rattle.ledger.specs.History.{net, booked, final};
+ghost use Rattle.ledger.specs.Ledger.{held, at_last, at_final};
+ghost use Rattle.ledger.specs.Questions.{cash_refusal};
+ghost use Rattle.reckoning.specs.Reckonings.{line, settled_told, place_told, month_told, month_line, month_text, months_text, cash_told, cash_text, account_text, known_text};
 
 use iso::IsoMonth;
 use journal::{Journal, Statement};
@@ -21,11 +23,32 @@ struct Settled {
 impl fmt::Display for Settled {
     ghost output = { λ s. Some (settled_told s.price) };
 
+    #[tactic(auto, unfolding(crate::specs::Reckonings::settled_told))]
     fn fmt<W: fmt::Write>(&self, f: &mut fmt::Formatter<W>) -> fmt::Result {
         match self.price {
             Some(price) => write!(f, "settled at {price}"),
             None => write!(f, "not settled"),
         }
+    }
+}
+
+// An account and a month.
+#[derive(Clone, Copy)]
+struct Place {
+    account: u32,
+    month: u32,
+}
+
+impl fmt::Display for Place {
+    ghost output = { λ p. Some (place_told p.account p.month) };
+
+    #[tactic(auto, unfolding(crate::specs::Reckonings::place_told))]
+    fn fmt<W: fmt::Write>(&self, f: &mut fmt::Formatter<W>) -> fmt::Result {
+        let account = self.account;
+        let month = IsoMonth {
+            month: u64::from(self.month),
+        };
+        write!(f, "account {account}, {month}")
     }
 }
 
@@ -36,34 +59,83 @@ struct MonthLine {
     month: u32,
     bought: i64,
     holds: i128,
-    settled: Settled,
+    price: Option<i32>,
 }
 
 impl MonthLine {
-    fn tell(&self, text: &mut String) -> Result<(), AllocError>
-        ensures { IfOk result (λ u. string_bytes text.new ≡ string_bytes text.old ++ month_told self.now.account self.now.month self.now.bought self.now.holds self.now.settled.price) }
+    fn place(&self) -> Place
+        ensures { result ≡ record { account = self.now.account; month = self.now.month } }
     {
-        let MonthLine {
-            account,
-            bought,
-            holds,
-            settled,
-            ..
-        } = *self;
-        if bought == 0 {
-            return Ok(());
+        Place {
+            account: self.account,
+            month: self.month,
         }
-        let month = IsoMonth {
-            month: u64::from(self.month),
-        };
-        writeln!(
-            text,
-            "account {account}, {month}: buys less sells {bought} lots; holds {holds} lots; {settled}"
+    }
+
+    fn settled(&self) -> Settled
+        ensures { result ≡ record { price = self.now.price } }
+    {
+        Settled { price: self.price }
+    }
+}
+
+impl fmt::Display for MonthLine {
+    ghost output = { λ l. Some (month_told l.account l.month l.bought l.holds l.price) };
+
+    fn fmt<W: fmt::Write>(&self, f: &mut fmt::Formatter<W>) -> fmt::Result {
+        write!(
+            f,
+            "{}: buys less sells {} lots; holds {} lots; {}",
+            self.place(),
+            self.bought,
+            self.holds,
+            self.settled()
         )
     }
 }
 
-// A month, by the account's statement.
+// Tells a month, if the account has bought more or less of it than it sold.
+fn write_month(text: &mut String, month: MonthLine) -> Result<(), AllocError>
+    ensures { IfOk result (λ u. string_bytes text.new ≡ string_bytes text.old ++ month_line month.account month.month month.bought month.holds month.price) }
+{
+    if month.bought == 0 {
+        return Ok(());
+    }
+    writeln!(text, "{month}")
+}
+
+// What an account holds in a month.
+fn held<T: Terms>(journal: &Journal<T>, account: u32, month: u32) -> i128
+    requires { cash_refusal (view journal.now.book.tables) account ≡ None }
+    ensures { result ≡ held (T.meaning journal.now.book.terms) journal.now.month (reverse journal.now.entries.items) (view journal.now.book.tables) account month }
+{
+    journal.held(account, month).unwrap_or(0)
+}
+
+// A month of an account, by its statement.
+fn month_line<T: Terms>(
+    journal: &Journal<T>,
+    statement: &Statement,
+    account: u32,
+    month: u32,
+) -> MonthLine
+    requires states { States (T.meaning journal.now.book.terms) journal.now.month journal.now.entries.items journal.now.book.tables account statement.now }
+    requires known { (cash_refusal (view journal.now.book.tables) account ≡ None) × (month < 1200) }
+    ensures place { (result.account ≡ account) × (result.month ≡ month) }
+    ensures bought { result.bought ≡ net (T.meaning journal.now.book.terms) journal.now.month (reverse journal.now.entries.items) account month }
+    ensures holds { result.holds ≡ held (T.meaning journal.now.book.terms) journal.now.month (reverse journal.now.entries.items) (view journal.now.book.tables) account month }
+    ensures price { result.price ≡ final (T.meaning journal.now.book.terms) journal.now.month (reverse journal.now.entries.items) month }
+{
+    MonthLine {
+        account,
+        month,
+        bought: statement.net(month),
+        holds: held(journal, account, month),
+        price: statement.final_price(month),
+    }
+}
+
+// Tells a month, by the account's statement.
 fn tell_month<T: Terms>(
     text: &mut String,
     journal: &Journal<T>,
@@ -71,32 +143,23 @@ fn tell_month<T: Terms>(
     account: u32,
     month: u32,
 ) -> Result<(), AllocError>
-    requires { States (T.meaning journal.now.book.terms) journal.now.month journal.now.entries.items journal.now.book.tables account statement.now }
-    requires { (account < (view journal.now.book.tables).accounts) × (month < 1200) }
+    requires states { States (T.meaning journal.now.book.terms) journal.now.month journal.now.entries.items journal.now.book.tables account statement.now }
+    requires known { (cash_refusal (view journal.now.book.tables) account ≡ None) × (month < 1200) }
     ensures { IfOk result (λ u. string_bytes text.new ≡ string_bytes text.old ++ month_text (T.meaning journal.now.book.terms) journal.now.month (reverse journal.now.entries.items) (view journal.now.book.tables) account month) }
 {
-    let line = MonthLine {
-        account,
-        month,
-        bought: statement.net(month),
-        holds: journal.held(account, month).unwrap_or(0),
-        settled: Settled {
-            price: statement.final_price(month),
-        },
-    };
-    line.tell(text)
+    write_month(text, month_line(journal, statement, account, month))
 }
 
-// All months, by the account's statement.
+// Tells all months, by the account's statement.
 fn tell_months<T: Terms>(
     text: &mut String,
     journal: &Journal<T>,
     statement: &Statement,
     account: u32,
 ) -> Result<(), AllocError>
-    requires { States (T.meaning journal.now.book.terms) journal.now.month journal.now.entries.items journal.now.book.tables account statement.now }
-    requires { account < (view journal.now.book.tables).accounts }
-    ensures { IfOk result (λ u. string_bytes text.new ≡ string_bytes text.old ++ flat_map (month_text (T.meaning journal.now.book.terms) journal.now.month (reverse journal.now.entries.items) (view journal.now.book.tables) account) (range_with_len 0 1200)) }
+    requires states { States (T.meaning journal.now.book.terms) journal.now.month journal.now.entries.items journal.now.book.tables account statement.now }
+    requires known { cash_refusal (view journal.now.book.tables) account ≡ None }
+    ensures { IfOk result (λ u. string_bytes text.new ≡ string_bytes text.old ++ months_text (T.meaning journal.now.book.terms) journal.now.month (reverse journal.now.entries.items) (view journal.now.book.tables) account) }
 {
     for month in 0..1200 {
         tell_month(text, journal, statement, account, month)?;
@@ -104,25 +167,96 @@ fn tell_months<T: Terms>(
     Ok(())
 }
 
-// The cash, by the account's statement.
+// An account's cash, and what explains it.
+#[derive(Clone, Copy)]
+struct CashLine {
+    account: u32,
+    at_last: i128,
+    at_final: i128,
+    booked: i128,
+    cash: i64,
+}
+
+impl fmt::Display for CashLine {
+    ghost output = { λ l. Some (cash_told l.account l.at_last l.at_final l.booked l.cash) };
+
+    #[tactic(auto, unfolding(crate::specs::Reckonings::cash_told))]
+    fn fmt<W: fmt::Write>(&self, f: &mut fmt::Formatter<W>) -> fmt::Result {
+        let CashLine {
+            account,
+            at_last,
+            at_final,
+            booked,
+            cash,
+        } = *self;
+        write!(
+            f,
+            "account {account}: holdings at last prices {at_last}, plus settled months at final prices {at_final}, less trades at cost {booked}; cash {cash} cents"
+        )
+    }
+}
+
+// Tells the cash.
+fn write_cash(text: &mut String, cash: CashLine) -> Result<(), AllocError>
+    ensures { IfOk result (λ u. string_bytes text.new ≡ string_bytes text.old ++ line (cash_told cash.account cash.at_last cash.at_final cash.booked cash.cash)) }
+{
+    writeln!(text, "{cash}")
+}
+
+// What an account has in cash.
+fn cash_of<T: Terms>(journal: &Journal<T>, account: u32) -> i64
+    requires { cash_refusal (view journal.now.book.tables) account ≡ None }
+    ensures { result ≡ (view journal.now.book.tables).cash account }
+{
+    journal.book().cash(account).unwrap_or(0)
+}
+
+// An account's cash, by its statement.
+fn cash_line<T: Terms>(journal: &Journal<T>, statement: &Statement, account: u32) -> CashLine
+    requires states { States (T.meaning journal.now.book.terms) journal.now.month journal.now.entries.items journal.now.book.tables account statement.now }
+    requires known { cash_refusal (view journal.now.book.tables) account ≡ None }
+    ensures account { result.account ≡ account }
+    ensures at_last { result.at_last ≡ at_last (T.meaning journal.now.book.terms) journal.now.month (reverse journal.now.entries.items) (view journal.now.book.tables) account }
+    ensures at_final { result.at_final ≡ at_final (T.meaning journal.now.book.terms) journal.now.month (reverse journal.now.entries.items) (view journal.now.book.tables) account }
+    ensures booked { result.booked ≡ booked (T.meaning journal.now.book.terms) journal.now.month (reverse journal.now.entries.items) account }
+    ensures cash { result.cash ≡ (view journal.now.book.tables).cash account }
+{
+    CashLine {
+        account,
+        at_last: statement.at_last,
+        at_final: statement.at_final,
+        booked: statement.booked(),
+        cash: cash_of(journal, account),
+    }
+}
+
+// Tells the cash, by the account's statement.
 fn tell_cash<T: Terms>(
     text: &mut String,
     journal: &Journal<T>,
     statement: &Statement,
     account: u32,
 ) -> Result<(), AllocError>
-    requires { States (T.meaning journal.now.book.terms) journal.now.month journal.now.entries.items journal.now.book.tables account statement.now }
-    requires { account < (view journal.now.book.tables).accounts }
+    requires states { States (T.meaning journal.now.book.terms) journal.now.month journal.now.entries.items journal.now.book.tables account statement.now }
+    requires known { cash_refusal (view journal.now.book.tables) account ≡ None }
     ensures { IfOk result (λ u. string_bytes text.new ≡ string_bytes text.old ++ cash_text (T.meaning journal.now.book.terms) journal.now.month (reverse journal.now.entries.items) (view journal.now.book.tables) account) }
 {
-    let at_last = statement.at_last;
-    let at_final = statement.at_final;
-    let booked = statement.booked();
-    let cash = journal.book().cash(account).unwrap_or(0);
-    writeln!(
-        text,
-        "account {account}: holdings at last prices {at_last}, plus settled months at final prices {at_final}, less trades at cost {booked}; cash {cash} cents"
-    )
+    write_cash(text, cash_line(journal, statement, account))
+}
+
+// Tells an account's months and its cash, by its statement.
+fn tell_known<T: Terms>(
+    text: &mut String,
+    journal: &Journal<T>,
+    statement: &Statement,
+    account: u32,
+) -> Result<(), AllocError>
+    requires states { States (T.meaning journal.now.book.terms) journal.now.month journal.now.entries.items journal.now.book.tables account statement.now }
+    requires known { cash_refusal (view journal.now.book.tables) account ≡ None }
+    ensures { IfOk result (λ u. string_bytes text.new ≡ string_bytes text.old ++ account_text (T.meaning journal.now.book.terms) journal.now.month (reverse journal.now.entries.items) (view journal.now.book.tables) account) }
+{
+    tell_months(text, journal, statement, account)?;
+    tell_cash(text, journal, statement, account)
 }
 
 // The months of an account in which it has bought more or less than it sold, and its cash, behind what was told before.
@@ -137,6 +271,5 @@ pub fn tell_account<T: Terms>(
     let Ok(statement) = journal.statement(account) else {
         return Ok(());
     };
-    tell_months(text, journal, &statement, account)?;
-    tell_cash(text, journal, &statement, account)
+    tell_known(text, journal, &statement, account)
 }
