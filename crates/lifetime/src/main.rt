@@ -1,37 +1,24 @@
 #![tactic(auto)]
 // Runs a position's whole life: a sheet of calls from standard input, under a calendar that the buyer loads.
+mod closed;
 mod lived;
 mod usage;
 
+use crate::closed::{calendar, closed_days};
 use crate::lived::live;
 use crate::usage::USAGE;
 use anyhow::anyhow;
-use calendars::ListCalendar;
 use power::{Baseload, Peakload, Power};
 use setup::{Setup, Traded};
-use std::{env, fs};
+use std::env;
 use wheat::Wheat;
 
-// The calendar of a buyer's file of closed days.
-fn calendar(closed: Vec<u32>) -> anyhow::Result<ListCalendar> {
-    match ListCalendar::new(closed) {
-        Ok(calendar) => Ok(calendar),
-        Err(refused) => {
-            let number = refused.fault.number();
-            let fault = refused.fault;
-            Err(anyhow!("closed days refused by the calendar, question {number}: {fault}"))
-        }
-    }
-}
-
+// Runs the life that is asked for, under the calendar of the file of closed days.
 fn run(rt: &HostRuntime, setup: &Setup, path: &str) -> anyhow::Result<()> {
     let heap = rt.alloc();
-    let bytes = fs::read(rt, path)?;
-    let closed = holidays::read_days(heap, bytes.as_slice()).map_err(|fault| anyhow!(
-        "closed days refused: {fault}"
-    ))?;
-    let first = calendar(closed.clone()?)?;
-    let second = calendar(closed)?;
+    let closed = closed_days(rt, path)?;
+    let first = calendar(heap, closed.clone()?)?;
+    let second = calendar(heap, closed)?;
     match setup.traded {
         Traded::Baseload => live(
             rt,
