@@ -1,5 +1,5 @@
 #![tactic(auto)]
-// What both walkthroughs tell in the same words: the closed days, the year, days, months and the class that a story buys.
+// What a walkthrough tells: the closed days, the year, days, months and the class that a story buys.
 mod closed;
 mod longest;
 mod wording;

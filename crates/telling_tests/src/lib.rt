@@ -1,4 +1,4 @@
 #![tactic(auto)]
-// Examples for the texts of the walkthroughs.
+// Examples for the texts of the walkthrough.
 #[cfg(test)]
 mod tests;

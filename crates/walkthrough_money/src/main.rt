@@ -68,7 +68,6 @@ fn tell(rt: &HostRuntime, closed: Vec<u32>) -> anyhow::Result<()> {
     tell_position(rt, Product::Wheat, wheat, again, year)
 }
 
-// The like stands in the other walkthrough: what both tell is in `telling`, and what is left says which story is told.
 fn run(rt: &HostRuntime) -> anyhow::Result<()> {
     println!(rt; "Tekkuvazh, a margin book for power and durum-wheat futures.")?;
     match telling::closed_days(rt)? {
