@@ -10,7 +10,8 @@ LAYERS = [
     ("terms", "terms"), ("power", "power"), ("wheat", "wheat"), ("single_month", "one month"), ("products", "products"),
     ("amounts", "amounts"), ("ledger", "ledger"), ("closing", "close of a day"), ("book", "book"), ("figures", "figures"),
     ("history", "history"), ("journal", "journal"), ("rows", "sheet rows"), ("sheet", "sheet"), ("day_sheet", "day sheet"),
-    ("telling", "walkthroughs"), ("walkthrough", "walkthroughs"), ("walkthrough_money", "walkthroughs"),
+    ("iso", "a life"), ("questions", "a life"), ("life", "a life"), ("reckoning", "a life"), ("setup", "a life"),
+    ("telling", "walkthrough"), ("walkthrough_money", "walkthrough"),
 ]
 top = pathlib.Path(__file__).resolve().parent.parent
 

@@ -6,7 +6,7 @@ use crate::margin_story;
 use ledger::Call;
 use products::Product;
 use telling::{day_text, longest_class, months_text};
-use terms::{Months, Terms};
+use terms::Terms;
 
 // The settlement price of a class on a day: dearer for later months of the year, and moving from day to day.
 fn settlement_price<T: Terms>(terms: &T, day: u32, class: u32) -> Option<i32> {
@@ -37,17 +37,17 @@ fn tell_holdings<T: Terms>(
     Ok(())
 }
 
-// The trade that begins the story, and the months of its class; none where it was not made.
+// The trade that begins the story: whether it was made.
 fn open_position<T: Terms>(
     rt: &HostRuntime,
     product: Product,
     desk: &mut Desk<T>,
-) -> anyhow::Result<Option<Months>> {
+) -> anyhow::Result<bool> {
     let day = desk.day();
     let date = day_text(rt.alloc(), day)?;
     let Some((class, months)) = longest_class(desk.terms(), day) else {
         println!(rt; "No class is tradable on {date}.")?;
-        return Ok(None);
+        return Ok(false);
     };
     let price = bench::PRICE;
     let trade = Call::Trade {
@@ -58,7 +58,7 @@ fn open_position<T: Terms>(
         price,
     };
     if desk.call(trade)?.is_err() {
-        return Ok(None);
+        return Ok(false);
     }
     let name = product.class_text(class);
     let span = months_text(rt.alloc(), months)?;
@@ -67,7 +67,7 @@ fn open_position<T: Terms>(
     println!(rt;
         "On {date} account 0 buys 1 lot of {name} from account 1 at {price} cents: {span}, {amount} {unit} in all."
     )?;
-    Ok(Some(months))
+    Ok(true)
 }
 
 fn mark_all<T: Terms>(desk: &mut Desk<T>) -> anyhow::Result<()> {
@@ -204,15 +204,15 @@ fn live<T: Terms>(rt: &HostRuntime, product: Product, desk: &mut Desk<T>) -> any
     Ok(())
 }
 
-// The whole life of one position, and the months that it was a position in; none where there was no position.
+// The whole life of one position, and whether there was one.
 pub fn tell<T: Terms>(
     rt: &HostRuntime,
     product: Product,
     desk: &mut Desk<T>,
-) -> anyhow::Result<Option<Months>> {
-    let months = open_position(rt, product, desk)?;
-    if months.is_some() {
+) -> anyhow::Result<bool> {
+    let opened = open_position(rt, product, desk)?;
+    if opened {
         live(rt, product, desk)?;
     }
-    Ok(months)
+    Ok(opened)
 }

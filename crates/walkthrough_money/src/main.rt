@@ -26,8 +26,8 @@ fn tell_position<T: Terms + Drop>(
         println!(rt; "No book can be made from that month on.")?;
         return Ok(());
     };
-    if let Some(months) = book_story::tell(rt, product, &mut desk)? {
-        law_story::tell(rt, &desk, months)?;
+    if book_story::tell(rt, product, &mut desk)? {
+        law_story::tell(rt, &desk)?;
         law_story::tell_replay(rt, &desk, again, month)?;
     }
     Ok(())

@@ -26,7 +26,6 @@ pub fn tell<T: Terms>(rt: &HostRuntime, product: Product, desk: &Desk<T>) -> any
     println!(rt;
         "  Its initial margin at the last price of {name}, {price} cents, and an interval of {interval} hundredths of a percent:"
     )?;
-    // The like stands in the other walkthrough, set in otherwise: shared, it would have to be told how far.
     for step in Step::all() {
         let result = holding.step_result(price, interval, step);
         println!(rt; "    step {step:?}: {result} cents")?;
