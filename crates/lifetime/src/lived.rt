@@ -1,4 +1,5 @@
 // One life, from its sheet to its end.
+use crate::usage::USAGE;
 use anyhow::anyhow;
 use journal::Journal;
 use life::{Life, Teller};
@@ -24,6 +25,7 @@ pub fn live<T: Terms + Drop>(
             let refusal = Refusal {
                 cause: Cause::Book(refused.fault),
             };
+            print!(rt; "{USAGE}")?;
             return Err(anyhow!("{refusal}"));
         }
     };
@@ -40,8 +42,23 @@ pub fn live<T: Terms + Drop>(
     teller.tell(heap, &mut life, sheet.as_slice())?;
     let Life { desk, mut text } = life;
     if let Some(account) = setup.followed {
-        reckoning::tell_sums(&mut text, desk.journal.book())?;
-        reckoning::tell_account(&mut text, &desk.journal, account)?;
+        let journal = &desk.journal;
+        reckoning::tell_sums(&mut text, journal.book())?;
+        reckoning::tell_account(&mut text, journal, account)?;
+        let calls = journal.entries().len();
+        let month = setup.month;
+        if let Some(other) = reckoning::differing_answers(
+            heap,
+            journal,
+            again,
+            month,
+            lines.as_slice(),
+        )? {
+            writeln!(
+                text,
+                "handed over as one list to a new book: of {calls} calls {other} get another answer"
+            )?;
+        }
     }
     let text = text.as_str();
     print!(rt; "{text}")?;

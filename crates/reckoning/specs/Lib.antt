@@ -1,1 +1,2 @@
 pub mod Reckonings
+pub mod Again
