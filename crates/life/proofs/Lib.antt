@@ -1,3 +1,2 @@
 pub mod Callings
 pub mod Lines
-pub mod Turns

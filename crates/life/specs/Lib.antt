@@ -1,4 +1,5 @@
 pub mod DayCalls
 pub mod Paths
+pub mod Reckoned
 pub mod Runs
 pub mod Told

@@ -3,6 +3,7 @@ ghost use Rattle.std.specs.Prelude.{◌≡◌, ◌+◌, ◌++◌, Ok, IfOk, stri
 ghost use Rattle.journal.specs.Lived.{Lived};
 ghost use Rattle.ledger.specs.declared.call.Call.{Call as Called};
 ghost use Rattle.life.specs.Paths.{followed_text};
+ghost use Rattle.life.specs.Reckoned.{reckoned_text};
 ghost use Rattle.life.specs.Runs.{run_at, moves, asked_run, accepts, calls_run, all_pass, day_run, day_passes, days_run, line_run, rows_run, sheet_run};
 ghost use Rattle.rows.specs.declared.request.Request.TheVariants.{Book as OfBook};
 ghost use Rattle.text.specs.Lines.{lines_from};
@@ -193,5 +194,16 @@ impl Teller {
                 opening.tell_refusal(&mut life.text, fault.cause)
             }
         }
+    }
+    // The law of the ledger in figures, where an account is followed, behind what was told before.
+    pub fn reckon<T: Terms>(self, life: &mut Life<T>) -> Result<(), AllocError>
+        ensures text { IfOk result (λ u. string_bytes life.new.text ≡ string_bytes life.old.text ++ reckoned_text (T.meaning life.old.desk.journal.book.terms) life.old.desk.journal.month life.old.desk.journal.entries.items life.old.desk.journal.book.tables self.followed) }
+        ensures same { life.new.desk ≡ life.old.desk }
+    {
+        let Some(account) = self.followed else {
+            return Ok(());
+        };
+        reckoning::tell_sums(&mut life.text, life.desk.journal.book())?;
+        reckoning::tell_account(&mut life.text, &life.desk.journal, account)
     }
 }

@@ -99,20 +99,14 @@ impl<T: Terms> Path<'_, T> {
         requires { self.now.account < (view self.now.book.now.tables).accounts }
         ensures { result ≡ (view self.now.book.now.tables).cash self.now.account }
     {
-        match self.book.cash(self.account) {
-            Ok(cash) => cash,
-            Err(_) => 0,
-        }
+        self.book.cash(self.account).unwrap_or(0)
     }
 
     // The margins, unless they are refused.
     fn margins(&self) -> Option<i128>
         ensures { result ≡ unless_refused (margins_refusal (T.meaning self.now.book.now.terms) (view self.now.book.now.tables) self.now.account) (margins_of (T.meaning self.now.book.now.terms) self.now.book.now.tables.lines (view self.now.book.now.tables) self.now.account) }
     {
-        match self.book.margins(self.account) {
-            Ok(cents) => Some(cents),
-            Err(_) => None,
-        }
+        self.book.margins(self.account).ok()
     }
 
     // The lots in a class.
@@ -120,10 +114,7 @@ impl<T: Terms> Path<'_, T> {
         requires { (self.now.account < (view self.now.book.now.tables).accounts) × (class < (T.meaning self.now.book.now.terms).classes) }
         ensures { result ≡ (view self.now.book.now.tables).lots self.now.account class }
     {
-        match self.book.holding(self.account, class) {
-            Ok(lots) => lots,
-            Err(_) => 0,
-        }
+        self.book.holding(self.account, class).unwrap_or(0)
     }
 
     // The quantity of one lot in a class.

@@ -40,18 +40,15 @@ pub fn live<T: Terms + Drop>(
         followed: setup.followed,
     };
     teller.tell(heap, &mut life, sheet.as_slice())?;
+    teller.reckon(&mut life)?;
     let Life { desk, mut text } = life;
-    if let Some(account) = setup.followed {
-        let journal = &desk.journal;
-        reckoning::tell_sums(&mut text, journal.book())?;
-        reckoning::tell_account(&mut text, journal, account)?;
-        let calls = journal.entries().len();
-        let month = setup.month;
+    if setup.followed.is_some() {
+        let calls = desk.journal.entries().len();
         if let Some(other) = reckoning::differing_answers(
             heap,
-            journal,
+            &desk.journal,
             again,
-            month,
+            setup.month,
             lines.as_slice(),
         )? {
             writeln!(
