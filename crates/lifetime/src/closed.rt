@@ -14,23 +14,12 @@ pub fn closed_days(rt: &HostRuntime, path: &str) -> anyhow::Result<Vec<u32>> {
     ))
 }
 
-// The first line of the file up to which its days make no calendar; each line is one day.
-fn refused_line(heap: Global, closed: &[u32]) -> anyhow::Result<usize> {
-    for lines in 1..closed.len() {
-        let days = closed[..lines].to_vec(heap)?;
-        if ListCalendar::new(days).is_err() {
-            return Ok(lines);
-        }
-    }
-    Ok(closed.len())
-}
-
-// The calendar of the days, or the question that refuses them and the line up to which they are refused.
+// The calendar of the days, or the question that refuses them and the line at which they are refused; each line is one day.
 pub fn calendar(heap: Global, closed: Vec<u32>) -> anyhow::Result<ListCalendar> {
     match ListCalendar::new(closed) {
         Ok(calendar) => Ok(calendar),
         Err(refused) => {
-            let line = refused_line(heap, refused.closed.as_slice())?;
+            let line = setup::refused_at(heap, refused.closed.as_slice())?;
             let number = refused.fault.number();
             let fault = refused.fault;
             Err(anyhow!("closed days refused at line {line}, question {number}: {fault}"))

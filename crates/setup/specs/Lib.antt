@@ -1,2 +1,3 @@
+pub mod Closed
 pub mod Faults
 pub mod Setups
