@@ -5,3 +5,4 @@ pub mod Chain
 pub mod Listing
 pub mod Heirs
 pub mod Period
+pub mod Day
