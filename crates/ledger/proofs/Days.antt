@@ -9,11 +9,12 @@ use Rattle.std.proofs.lemmas.Bool.{cases_lt, cond-true, false≢true, and_parts,
 use Rattle.terms.specs.Laws.{Laws}
 use Rattle.terms.specs.Meaning.{Meaning, answers}
 use Rattle.ledger.specs.Calls.{by_end}
-use Rattle.ledger.specs.State.{start_day, next_day}
+use Rattle.ledger.specs.State.{start_day}
+use Rattle.terms.specs.Day.{next_day}
 use Rattle.ledger.proofs.Tests.{some-none}
 
 -- what a walk finds is the first day of the set
-first_found : (f : ℕ → Bool) (n a d : ℕ) → first_from f a n ≡ Some d → First f a (a + n) d
+pub first_found : (f : ℕ → Bool) (n a d : ℕ) → first_from f a n ≡ Some d → First f a (a + n) d
 unfolding first_from
 first_found f zero a d e = absurd (some-none (Some d) d refl (sym e))
 first_found f (suc n) a d e = step (f a) refl e (first_found f n (suc a) d)

@@ -2,7 +2,7 @@
 use Rattle.std.proofs.Common.{◌≡◌, ℕ, cond, ◌&&◌, eqb, ◌∷◌, ℤ, pos, ◌+ℤ◌, ◌*ℤ◌, Some, None, Option, refl, ◌∙◌}
 use Rattle.amounts.specs.SumsOfWhole.{if_z}
 use Rattle.terms.specs.Meaning.{Meaning, has, class_quantity}
-use Rattle.ledger.specs.Calls.{share}
+use Rattle.ledger.specs.Words.{share}
 use Rattle.ledger.specs.declared.entry.Entry.{Entry}
 use Rattle.ledger.specs.History.{History, accepted, is_close, day_after, month_lots, class_lots, at_cost, final_of, first_of, net, since, costs, booked, final}
 use Rattle.ledger.specs.declared.call.Call.{Call}

@@ -1,108 +1,100 @@
--- An accepted trade keeps what every history keeps. Assumes nothing.
-use Rattle.std.proofs.Common.{◌≡◌, ℕ, ◌<◌, Bool, true, false, not, ◌&&◌, eqb, ℤ, pos, ◌+ℤ◌, ◌-ℤ◌, ◌*ℤ◌, neg_ℤ, Some, None, Option, sym, refl, ap, ◌∙◌, ⊎_elim, arith}
-use lib.IntN.{*ℤ-zero, zero-*ℤ, +ℤ_invr}
-use Rattle.amounts.proofs.Ring.{*ℤ-left-distrib}
-use Rattle.amounts.proofs.Sums.{sum-add, sum_left, sum-right, sum-hit, if-zero, if-sum, miss}
-use Rattle.amounts.specs.SumsOfWhole.{sum_z, if_z}
+-- An accepted trade keeps what every history keeps of a row: the row is as many times one lot more as the account has lots in
+-- the trade. Assumes nothing.
+use Rattle.std.proofs.Common.{◌≡◌, ℕ, ◌+◌, ◌<◌, Bool, true, false, not, ◌&&◌, eqb, leb, ltb, ℤ, pos, ◌+ℤ◌, ◌-ℤ◌, ◌*ℤ◌, is_some, Some, None, Option, sym, ap, ◌∙◌, subst, arith}
+use lib.IntN.{*ℤ_comm, *ℤ-zero}
+use Rattle.amounts.proofs.Ring.{*ℤ-assoc}
+use Rattle.amounts.specs.SumsOfWhole.{if_z}
+use Rattle.ledger.proofs.Figures.{Figures, told}
+use Rattle.ledger.proofs.Kept.{Open, Story, Kept, lot_story, kept-lot, kept-more, more_story}
+use Rattle.ledger.proofs.Rules.{class_on, quantity_on, more, one_lot}
+use Rattle.ledger.proofs.Tests.{ask-none, given-some}
+use Rattle.ledger.specs.Calls.{known, lots_fit, price_fits, row_traded, refusal}
+use Rattle.ledger.specs.State.{Market, Row, State}
+use Rattle.ledger.specs.Words.{within, share}
+use Rattle.ledger.specs.declared.call.Call.TheVariants.{Trade, Mark, Reprice, Settle}
+use Rattle.std.proofs.lemmas.Bool.{and_parts, ltb-true}
 use Rattle.std.proofs.lemmas.Int.{ints}
-use Rattle.std.proofs.lemmas.Bool.{cases_Bool, false≢true, and_parts, ltb-true, cond-false}
 use Rattle.terms.specs.Laws.{Laws}
 use Rattle.terms.specs.Meaning.{Meaning, has, tradable}
-use Rattle.ledger.specs.Calls.{known, share, trade_refusal, traded}
-use Rattle.ledger.specs.State.{State, class_now, quantity_now}
-use Rattle.ledger.specs.Words.{or_zero}
-use Rattle.ledger.specs.declared.call.Call.TheVariants.{Trade}
-use Rattle.ledger.proofs.Classes.{tradable-known, not-settling}
-use Rattle.ledger.proofs.Figures.{Figures, told}
-use Rattle.ledger.proofs.Kept.{pending, worth, finals, Kept, finals-same, not-before, past-before}
-use Rattle.ledger.proofs.Sums.{plus_none}
-use Rattle.ledger.proofs.Tests.{ask-none}
-use Rattle.ledger.proofs.Weights.{Additive, where-so, one_more}
 
--- what the two sides of a trade get sums to zero
-module _ (n buyer seller : ℕ) (x : ℤ) (h : buyer < n) (k : seller < n) where
-  share-nil : sum_z n (share buyer seller x) ≡ pos 0
-  share-nil = sum-add n (λ a. if_z (eqb a buyer) x) (λ a. if_z (eqb a seller) (neg_ℤ x)) ∙ (λ i. sum-hit n buyer x h i +ℤ sum-hit n seller (neg_ℤ x) k i) ∙ +ℤ_invr x
+-- ---- what the questions told of an accepted call
 
-  -- so does any figure to which each adds its share where a test passes
-  share-adds : (t : Bool) (f : ℕ → ℤ) → sum_z n f ≡ pos 0 → sum_z n (λ a. f a +ℤ if_z t (share buyer seller x a)) ≡ pos 0
-  share-adds t f z =
-      sum-add n f (λ a. if_z t (share buyer seller x a))
-      ∙ (λ i. z i +ℤ (sym (if-sum t n (share buyer seller x)) ∙ ap (if_z t) share-nil ∙ if-zero t) i)
+pub record MayTrade (w : Meaning) (s : State) (buyer seller c : ℕ) (n p : ℤ) : Type 0 where
+  pub buys : buyer < s.made.accounts
+  pub sells : seller < s.made.accounts
+  pub apart : not (eqb buyer seller) ≡ true
+  pub opened : tradable (class_on w s.market c) ≡ true
+  pub lots : within (pos 1) (pos 1000) n ≡ true
+  pub price : price_fits p ≡ true
+  pub few : s.market.accepted < 100000
 
-same-before : (x y u : ℤ) → (x +ℤ u) -ℤ (y +ℤ u) ≡ x -ℤ y
-same-before x y u = omega (arith, ints)
+pub may-trade : (w : Meaning) (s : State) (buyer seller c : ℕ) (n p : ℤ) → refusal w s (Trade buyer seller c n p) ≡ None → MayTrade w s buyer seller c n p
+may-trade w s buyer seller c n p q =
+    let q1 = ask-none (known s buyer && known s seller) _ _ q in
+    let q2 = ask-none (not (eqb buyer seller)) _ _ q1.1 in
+    let q3 = ask-none (tradable (class_on w s.market c)) _ _ q2.1 in
+    let q4 = ask-none (within (pos 1) (pos 1000) n) _ _ q3.1 in
+    let q5 = ask-none (price_fits p) _ _ q4.1 in
+    let q6 = ask-none (ltb s.market.accepted 100000) _ _ q5.1 in
+    let both = and_parts (known s buyer) (known s seller) q1.0 in
+    record {
+      buys = ltb-true buyer s.made.accounts both.0;
+      sells = ltb-true seller s.made.accounts both.1;
+      apart = q2.0;
+      opened = q3.0;
+      lots = q4.0;
+      price = q5.0;
+      few = ltb-true s.market.accepted 100000 q6.0;
+    }
 
-regroup : (x y z : ℤ) → x +ℤ y +ℤ z ≡ x +ℤ (y +ℤ z)
-regroup x y z = omega (arith, ints)
+pub settle-priced : (w : Meaning) (s : State) (f : ℤ) (room : ℕ) → refusal w s (Settle f room) ≡ None → s.market.last w.settling ≡ None → ⊥
+settle-priced w s f room q =
+    given-some (s.market.last w.settling) (ask-none (is_some (s.market.last w.settling)) _ _ (ask-none (leb s.made.accounts room) _ _ q).1).0
 
--- a month that is not settled counts nothing
-unsettled : (x y q : ℤ) → x *ℤ (q *ℤ pos 0) ≡ y *ℤ (q *ℤ pos 0)
-unsettled x y q = ap (λ v. x *ℤ v) (*ℤ-zero q) ∙ *ℤ-zero x ∙ sym (ap (λ v. y *ℤ v) (*ℤ-zero q) ∙ *ℤ-zero y)
+-- ---- the row and its story
 
-at-quantity : (q : ℕ → ℤ) → Additive (λ c x. q c *ℤ x)
-at-quantity q = record { adds = λ c x y. *ℤ-left-distrib (q c) x y; nil = λ c. *ℤ-zero (q c) }
+one-more : (b : Bool) (x y r : ℤ) → x *ℤ if_z b y +ℤ r ≡ r +ℤ if_z b (x *ℤ y)
+one-more true x y r = omega (arith, ints)
+one-more false x y r = omega (arith, ints, *ℤ-zero x)
 
-pub trade-kept : (w : Meaning) → Laws w → (F : Figures) (s : State) → Kept w F s → (buyer seller c : ℕ) (x p : ℤ) → trade_refusal w s buyer seller c x p ≡ None → Kept w (told w s.day F (Trade buyer seller c x p)) (traded s buyer seller c x p)
-trade-kept w law F s k b e c x p q = record {
-  answered = k.answered;
-  lots-nil = λ i. share-adds n b e x b-known e-known (eqb i c) (λ a. s.lots a i) (k.lots-nil i);
-  traded-nil = λ i. share-adds n b e x b-known e-known (eqb i c) (λ a. s.traded a i) (k.traded-nil i);
-  net-nil = λ m. share-adds n b e x b-known e-known (has (class_now w s c) m) (λ a. F.net a m) (k.net-nil m);
-  costs-nil =
-      sum-add n F.costs (λ a. Q *ℤ (share b e x a *ℤ p))
-      ∙ (λ i. k.costs-nil i +ℤ (sum_left n Q (λ a. share b e x a *ℤ p) ∙ ap (λ v. Q *ℤ v) (sum-right n (share b e x) p ∙ ap (λ v. v *ℤ p) (share-nil n b e x b-known e-known) ∙ zero-*ℤ p) ∙ *ℤ-zero Q) i);
-  booked-nil = k.booked-nil;
-  since-is = λ a i. ap (λ v. v +ℤ if_z (eqb i c) (share b e x a)) (k.since-is a i);
-  costs-are = λ a.
-      ap (λ v. v +ℤ Q *ℤ (share b e x a *ℤ p)) (k.costs-are a)
-      ∙ regroup (F.booked a) (pending w s a) (Q *ℤ (share b e x a *ℤ p))
-      ∙ ap (λ v. F.booked a +ℤ v) (sym (one_more (λ i v. pos (quantity_now w s i) *ℤ v) (at-quantity (λ i. pos (quantity_now w s i))) w.classes c (s.cost a) (share b e x a *ℤ p) c-known));
-  idle = λ a i y.
-      let ne : i ≡ c → ⊥ = λ (z : i ≡ c). false≢true (sym y ∙ ap (λ j. tradable (class_now w s j)) z ∙ opened) in
-      let o = k.idle a i y in
-      ((λ j. o.0 j +ℤ miss i c (share b e x a) ne j), (λ j. o.1 j +ℤ miss i c (share b e x a *ℤ p) ne j));
-  unpriced = λ a i y. ap (λ v. v +ℤ if_z (eqb i c) (share b e x a)) (k.unpriced a i y);
-  past = k.past;
-  open-held = λ a m y.
-      one_more (λ i v. if_z (has (class_now w s i) m) v) (where-so (λ i. has (class_now w s i) m)) w.classes c (s.lots a) (share b e x a) c-known
-      ∙ ap (λ v. v +ℤ if_z (has (class_now w s c) m) (share b e x a)) (k.open-held a m y);
-  value = λ a. k.value a ∙ sym (λ i. worth-same a i +ℤ finals-are a i);
+one-times : (x : ℤ) → x *ℤ pos 1 ≡ x
+one-times x = omega (arith, ints)
+
+no-more : (x r : ℤ) → x *ℤ pos 0 +ℤ r ≡ r
+no-more x r = omega (arith, ints, *ℤ-zero x)
+
+bought : (c : ℕ) (p x : ℤ) (r : Row) → more x (one_lot c p) r ≡ row_traded c p x r
+bought c p x r = λ i. record {
+  lots = λ j. (one-more (eqb j c) x (pos 1) (r.lots j) ∙ ap (λ v. r.lots j +ℤ if_z (eqb j c) v) (one-times x)) i;
+  traded = λ j. (one-more (eqb j c) x (pos 1) (r.traded j) ∙ ap (λ v. r.traded j +ℤ if_z (eqb j c) v) (one-times x)) i;
+  cost = λ j. one-more (eqb j c) x p (r.cost j) i;
+  cash = no-more x r.cash i;
 }
-  where
-    n : ℕ
-    n = s.accounts
 
-    Q : ℤ
-    Q = pos (quantity_now w s c)
+-- what history tells of an account
+abbrev pub story_of : Figures → ℕ → Story
+story_of F a = record { net = F.net a; costs = F.costs a; booked = F.booked a }
 
-    opened : tradable (class_now w s c) ≡ true
-    opened = (ask-none (tradable (class_now w s c)) _ _ (ask-none (not (eqb b e)) _ _ (ask-none (known s b && known s e) _ _ q).1).1).0
+cost-more : (x q p c : ℤ) → x *ℤ (q *ℤ p) +ℤ c ≡ c +ℤ q *ℤ (x *ℤ p)
+cost-more x q p c = omega (arith, ints, sym (*ℤ-assoc x q p) ∙ ap (λ v. v *ℤ p) (*ℤ_comm x q) ∙ *ℤ-assoc q x p)
 
-    both : (known s b ≡ true) × (known s e ≡ true)
-    both = and_parts (known s b) (known s e) (ask-none (known s b && known s e) _ _ q).0
+story-more : (w : Meaning) (k : Market) (c : ℕ) (p : ℤ) (F : Figures) (a buyer seller : ℕ) (n : ℤ) → more_story (share buyer seller n a) (record { net = λ m. if_z (has (class_on w k c) m) (pos 1); costs = pos (quantity_on w k c) *ℤ p; booked = pos 0 }) (story_of F a) ≡ story_of (told w k.day F (Trade buyer seller c n p)) a
+story-more w k c p F a buyer seller n =
+    let x = share buyer seller n a in
+    λ i. record {
+      net = λ m. (one-more (has (class_on w k c) m) x (pos 1) (F.net a m) ∙ ap (λ v. F.net a m +ℤ if_z (has (class_on w k c) m) v) (one-times x)) i;
+      costs = cost-more x (pos (quantity_on w k c)) p (F.costs a) i;
+      booked = no-more x (F.booked a) i;
+    }
 
-    b-known : b < n
-    b-known = ltb-true b s.accounts both.0
+-- the count of trades, the day's prices and the repricings do not count
+pub still : (w : Meaning) (k : Market) (final : ℕ → Option ℤ) (F : Story) (r : Row) (t p : ℕ → Option ℤ) (n : ℕ) → Kept w k final F r → Kept w (record k { accepted = n; today = t; repriced = p }) final F r
+still w k final F r t p n s = record { idle = s.idle; unpriced = s.unpriced; costs-are = s.costs-are; open-held = s.open-held; value = s.value }
 
-    e-known : e < n
-    e-known = ltb-true e s.accounts both.1
-
-    c-known : c < w.classes
-    c-known = tradable-known w law s.day c opened
-
-    worth-same : (a : ℕ) → worth w (traded s b e c x p) a ≡ worth w s a
-    worth-same a = λ i. sum_z w.classes (λ j. same-before (s.lots a j) (s.traded a j) (if_z (eqb j c) (share b e x a)) i *ℤ (pos (quantity_now w s j) *ℤ or_zero (s.last j)))
-
-    -- nobody trades a settled month
-    one : (a m : ℕ) (o : Option ℤ) → F.final m ≡ o → (F.net a m +ℤ if_z (has (class_now w s c) m) (share b e x a)) *ℤ (pos (w.quantity m) *ℤ or_zero o) ≡ F.net a m *ℤ (pos (w.quantity m) *ℤ or_zero o)
-    one a m None y = unsettled (F.net a m +ℤ if_z (has (class_now w s c) m) (share b e x a)) (F.net a m) (pos (w.quantity m))
-    one a m (Some f) y =
-        let no : has (class_now w s c) m ≡ false = ⊎_elim
-        (λ (z : has (class_now w s c) m ≡ true). absurd (not-before m (past-before w law s k.answered m c m (k.past m f y) (not-settling w law s.day c opened) z)))
-        (λ (z : has (class_now w s c) m ≡ false). z)
-        (cases_Bool (has (class_now w s c) m)) in
-        ap (λ v. v *ℤ (pos (w.quantity m) *ℤ f)) (plus_none (F.net a m) _ (cond-false _ (share b e x a) (pos 0) no))
-
-    finals-are : (a : ℕ) → finals w (told w s.day F (Trade b e c x p)) a ≡ finals w F a
-    finals-are a = finals-same w F (told w s.day F (Trade b e c x p)) a (λ m. one a m (F.final m) refl)
+pub trade-kept : (w : Meaning) → Laws w → (k : Market) (F : Figures) → Open w k F.final → (buyer seller c : ℕ) (n p : ℤ) → tradable (class_on w k c) ≡ true → (a : ℕ) (r : Row) → Kept w k F.final (story_of F a) r → Kept w (record k { accepted = k.accepted + 1 }) F.final (story_of (told w k.day F (Trade buyer seller c n p)) a) (row_traded c p (share buyer seller n a) r)
+trade-kept w law k F o buyer seller c n p opened a r s =
+    let x = share buyer seller n a in
+    still w k F.final _ _ k.today k.repriced (k.accepted + 1)
+    (subst (λ r. Kept w k F.final (story_of (told w k.day F (Trade buyer seller c n p)) a) r) (bought c p x r)
+    (subst (λ G. Kept w k F.final G (more x (one_lot c p) r)) (story-more w k c p F a buyer seller n)
+    (kept-more w k F.final x (lot_story w law k F.final o c p) (story_of F a) (one_lot c p) r (kept-lot w law k F.final o c p opened) s)))

@@ -7,7 +7,7 @@ use Rattle.amounts.specs.SumsOfWhole.{sum_z, if_z}
 use Rattle.std.proofs.lemmas.Int.{ints}
 use Rattle.std.proofs.lemmas.Bool.{cases_eq, cases_Bool, false≢true, cond-true, cond-false}
 use Rattle.terms.specs.Laws.{names}
-use Rattle.ledger.specs.Calls.{source_below}
+use Rattle.terms.specs.Day.{source_below}
 use Rattle.ledger.specs.Words.{from}
 use Rattle.ledger.proofs.Tests.{some-none, names-true, names-yes}
 
@@ -112,7 +112,7 @@ module _ (next : ℕ → Option ℕ) (t : ℕ) where
       cond-false (names (next n) t) (Some n) (source_below next t n) q ∙ source-here n c (omega arith) one e)
       (cases_Bool (names (next n) t))
 
-  source-none : (n : ℕ) → source_below next t n ≡ None → (c : ℕ) → c < n → next c ≡ Some t → ⊥
+  pub source-none : (n : ℕ) → source_below next t n ≡ None → (c : ℕ) → c < n → next c ≡ Some t → ⊥
   source-none zero e c h y = omega arith
   source-none (suc n) e c h y =
       ⊎_elim

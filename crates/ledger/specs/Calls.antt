@@ -1,22 +1,24 @@
--- The calls: the questions in their order, and what an accepted call does. Assumes nothing.
-use Rattle.std.specs.Prelude.{ℕ, zero, suc, ◌+◌, Bool, true, false, cond, not, ◌&&◌, ℤ, pos, negsuc, ◌+ℤ◌, ◌-ℤ◌, ◌*ℤ◌, neg_ℤ, is_some, Some, None, Option, ◌==◌, nat_le, nat_lt}
+-- The calls: the questions in their order, and what an accepted call makes of the market and of an account's row.
+-- Assumes nothing.
+use Rattle.std.specs.Prelude.{ℕ, ◌+◌, Bool, true, false, cond, not, ◌&&◌, ℤ, pos, negsuc, ◌+ℤ◌, ◌-ℤ◌, ◌*ℤ◌, neg_ℤ, is_some, Some, None, Option, ◌==◌, nat_le, nat_lt}
 use Rattle.amounts.specs.Amounts.{variation, part_payment, final_payment}
 use Rattle.amounts.specs.SumsOfWhole.{sum_z, if_z}
-use Rattle.calendars.specs.Walks.{next_after}
-use Rattle.ledger.specs.State.{State, next_day, class_now, quantity_now, limit}
-use Rattle.ledger.specs.Words.{ask, all_below, within, or_zero, put, from, unless}
+use Rattle.terms.specs.Day.{Day, day_of, next_day}
+use Rattle.ledger.specs.State.{Market, Row, State}
+use Rattle.ledger.specs.Words.{ask, all_below, within, or_zero, put, from, unless, share}
 use Rattle.ledger.specs.declared.call.Call.{Call}
 use Rattle.ledger.specs.declared.call.Call.TheVariants.{Trade, Mark, Reprice, Settle, Close}
 use Rattle.ledger.specs.declared.fault.Fault.{Fault}
 use Rattle.ledger.specs.declared.fault.Fault.TheVariants.{UnknownAccount, SameAccount, NotTradable, LotsOutOfRange, PriceOutOfRange, TooManyTrades, HoldingOutOfRange, NotRepriceable, ListTooShort, NothingToSettle, CashOutOfRange, ClassUnpriced, SettlingUnsettled, PartsOutOfRange, NoDayLeft}
-use Rattle.terms.specs.Laws.{names, is_taken_over}
-use Rattle.terms.specs.Meaning.{Meaning, tradable, is_part, has_some_part, successor}
+use Rattle.terms.specs.Meaning.{Meaning}
+
+-- ---- ranges
 
 abbrev pub known : State → ℕ → Bool
-known s a = nat_lt a s.accounts
+known s a = nat_lt a s.made.accounts
 
-abbrev pub lots_fit : State → ℕ → ℤ → Bool
-lots_fit s a x = within (neg_ℤ (pos (limit s a))) (pos (limit s a)) x
+abbrev pub lots_fit : ℤ → Bool
+lots_fit x = within (negsuc 999) (pos 1000) x
 
 abbrev pub price_fits : ℤ → Bool
 price_fits p = within (negsuc 99999) (pos 100000) p
@@ -24,182 +26,170 @@ price_fits p = within (negsuc 99999) (pos 100000) p
 abbrev pub cash_fits : ℤ → Bool
 cash_fits x = within (negsuc 8999999999999999999) (pos 9000000000000000000) x
 
--- ---- trade
-
--- what a trade of n lots brings an account: n to the buyer, −n to the seller
-abbrev pub share : ℕ → ℕ → ℤ → ℕ → ℤ
-share buyer seller n a = if_z (a == buyer) n +ℤ if_z (a == seller) (neg_ℤ n)
-
-abbrev pub trade_refusal : Meaning → State → ℕ → ℕ → ℕ → ℤ → ℤ → Option Fault
-trade_refusal w s buyer seller c n p =
-    ask (known s buyer && known s seller) UnknownAccount
-    (ask (not (buyer == seller)) SameAccount
-    (ask (tradable (class_now w s c)) NotTradable
-    (ask (within (pos 1) (pos 1000) n) LotsOutOfRange
-    (ask (price_fits p) PriceOutOfRange
-    (ask (nat_lt s.accepted 100000) TooManyTrades
-    (ask (lots_fit s buyer (s.lots buyer c +ℤ n) && lots_fit s seller (s.lots seller c -ℤ n)) HoldingOutOfRange None))))))
-
-abbrev pub traded : State → ℕ → ℕ → ℕ → ℤ → ℤ → State
-traded s buyer seller c n p = record {
-  day = s.day;
-  accounts = s.accounts;
-  accepted = s.accepted + 1;
-  lots = λ a i. s.lots a i +ℤ if_z (i == c) (share buyer seller n a);
-  traded = λ a i. s.traded a i +ℤ if_z (i == c) (share buyer seller n a);
-  cost = λ a i. s.cost a i +ℤ if_z (i == c) (share buyer seller n a *ℤ p);
-  cash = s.cash;
-  last = s.last;
-  today = s.today;
-  repriced = s.repriced;
-}
-
--- ---- mark and reprice
-
-abbrev pub mark_refusal : Meaning → State → ℕ → ℤ → Option Fault
-mark_refusal w s c p = ask (tradable (class_now w s c)) NotTradable (ask (price_fits p) PriceOutOfRange None)
-
-abbrev pub marked : State → ℕ → ℤ → State
-marked s c p = record {
-  day = s.day;
-  accounts = s.accounts;
-  accepted = s.accepted;
-  lots = s.lots;
-  traded = s.traded;
-  cost = s.cost;
-  cash = s.cash;
-  last = s.last;
-  today = put s.today c (Some p);
-  repriced = s.repriced;
-}
-
-abbrev pub reprice_refusal : Meaning → State → ℕ → ℤ → Option Fault
-reprice_refusal w s c p =
-    ask (nat_lt c w.classes && (not (tradable (class_now w s c)) && is_some (s.last c))) NotRepriceable
-    (ask (price_fits p) PriceOutOfRange None)
-
-abbrev pub repriced : State → ℕ → ℤ → State
-repriced s c p = record {
-  day = s.day;
-  accounts = s.accounts;
-  accepted = s.accepted;
-  lots = s.lots;
-  traded = s.traded;
-  cost = s.cost;
-  cash = s.cash;
-  last = s.last;
-  today = s.today;
-  repriced = put s.repriced c (Some p);
-}
-
--- ---- settle
-
--- what an account is paid: against the last price, never the repricing
-abbrev pub settle_pay : Meaning → State → ℤ → ℕ → ℤ
-settle_pay w s f a = final_payment (quantity_now w s w.settling) (s.lots a w.settling) f (or_zero (s.last w.settling))
-
-abbrev pub settle_refusal : Meaning → State → ℤ → ℕ → Option Fault
-settle_refusal w s f room =
-    ask (nat_le s.accounts room) ListTooShort
-    (ask (is_some (s.last w.settling)) NothingToSettle
-    (ask (price_fits f) PriceOutOfRange
-    (ask (all_below s.accounts (λ a. cash_fits (s.cash a +ℤ settle_pay w s f a))) CashOutOfRange None)))
-
-abbrev pub settled : Meaning → State → ℤ → State
-settled w s f = record {
-  day = s.day;
-  accounts = s.accounts;
-  accepted = s.accepted;
-  lots = λ a. put (s.lots a) w.settling (pos 0);
-  traded = s.traded;
-  cost = s.cost;
-  cash = λ a. s.cash a +ℤ settle_pay w s f a;
-  last = put s.last w.settling None;
-  today = s.today;
-  repriced = put s.repriced w.settling None;
-}
-
--- ---- close
-
--- the last price of a class once the day's prices have become the last ones
-abbrev pub newest : Meaning → State → ℕ → Option ℤ
-newest w s c = cond (tradable (class_now w s c)) (s.today c) (s.last c)
-
--- first each tradable class pays its variation margin
-abbrev pub variation_pay : Meaning → State → ℕ → ℕ → ℤ
-variation_pay w s a c =
-    if_z (tradable (class_now w s c)) (variation (quantity_now w s c) (or_zero (s.today c)) (s.lots a c) (or_zero (s.last c)) (s.traded a c) (s.cost a c))
-
--- then a class with parts pays for each of them, by the part's quantity
-abbrev pub part_pay : Meaning → State → ℕ → ℕ → ℕ → ℤ
-part_pay w s a c p =
-    if_z (is_part (class_now w s c) p) (part_payment (quantity_now w s p) (s.lots a c) (or_zero (newest w s p)) (or_zero (newest w s c)))
-
--- what an account is paid for the parts, over all classes
-abbrev pub parts_pay : Meaning → State → ℕ → ℤ
-parts_pay w s a = sum_z w.classes (λ c. sum_z w.classes (part_pay w s a c))
-
-abbrev pub close_pay : Meaning → State → ℕ → ℤ
-close_pay w s a = sum_z w.classes (variation_pay w s a) +ℤ parts_pay w s a
-
--- a class with parts gives its lots to each part and is emptied
-abbrev pub after_parts : Meaning → State → ℕ → ℕ → ℤ
-after_parts w s a c =
-    cond (has_some_part (class_now w s c)) (pos 0) (s.lots a c +ℤ sum_z w.classes (λ e. if_z (is_part (class_now w s e) c) (s.lots a e)))
-
--- the class below n to which class t is the successor
-abbrev pub source_below : (ℕ → Option ℕ) → ℕ → ℕ → Option ℕ
-source_below next t zero = None
-source_below next t (suc n) = cond (names (next n) t) (Some n) (source_below next t n)
-
-abbrev pub source_of : Meaning → State → ℕ → Option ℕ
-source_of w s t = source_below (λ c. successor (class_now w s c)) t w.classes
-
 abbrev pub by_end : Option ℕ → Bool
 by_end None = false
 by_end (Some d) = nat_lt d 35430
 
-abbrev pub close_refusal : Meaning → State → ℕ → Option Fault
-close_refusal w s room =
-    ask (nat_le s.accounts room) ListTooShort
-    (ask (all_below w.classes (λ c. cond (tradable (class_now w s c)) (is_some (s.today c)) true)) ClassUnpriced
-    (ask (cond (is_taken_over w s.day) (not (is_some (s.last w.settling))) true) SettlingUnsettled
-    (ask (all_below s.accounts (λ a. all_below w.classes (λ c. lots_fit s a (after_parts w s a c)))) PartsOutOfRange
-    (ask (by_end (next_after w.opens s.day)) NoDayLeft
-    (ask (all_below s.accounts (λ a. cash_fits (s.cash a +ℤ close_pay w s a))) CashOutOfRange None)))))
+-- a test passes for the row of each account
+abbrev pub all_rows : State → (Row → Bool) → Bool
+all_rows s f = all_below s.made.accounts (λ a. f (s.rows a))
 
--- lots, last price and repricing move to the successor; a class nobody succeeds to starts empty and without a price; a
--- repricing lapses where its class becomes tradable
-abbrev pub closed : Meaning → State → State
-closed w s = record {
-  day = next_day w s.day;
-  accounts = s.accounts;
-  accepted = s.accepted;
-  lots = λ a t. from (source_of w s t) (pos 0) (after_parts w s a);
-  traded = λ a c. pos 0;
-  cost = λ a c. pos 0;
-  cash = λ a. s.cash a +ℤ close_pay w s a;
-  last = λ t. from (source_of w s t) None (newest w s);
-  today = λ c. None;
-  repriced = λ t. cond (tradable (w.on (next_day w s.day) t)) None (from (source_of w s t) None s.repriced);
+-- ---- trade
+
+-- a row with x lots more of a class at a price
+abbrev pub row_traded : ℕ → ℤ → ℤ → Row → Row
+row_traded c p x r = record r {
+  lots = λ i. r.lots i +ℤ if_z (i == c) x;
+  traded = λ i. r.traded i +ℤ if_z (i == c) x;
+  cost = λ i. r.cost i +ℤ if_z (i == c) (x *ℤ p);
 }
+
+abbrev pub trade_refusal : Day → State → ℕ → ℕ → ℕ → ℤ → ℤ → Option Fault
+trade_refusal d s buyer seller c n p =
+    ask (known s buyer && known s seller) UnknownAccount
+    (ask (not (buyer == seller)) SameAccount
+    (ask (d.tradable c) NotTradable
+    (ask (within (pos 1) (pos 1000) n) LotsOutOfRange
+    (ask (price_fits p) PriceOutOfRange
+    (ask (nat_lt s.market.accepted 100000) TooManyTrades
+    (ask (lots_fit ((s.rows buyer).lots c +ℤ n) && lots_fit ((s.rows seller).lots c -ℤ n)) HoldingOutOfRange None))))))
+
+-- ---- mark and reprice
+
+abbrev pub mark_refusal : Day → ℕ → ℤ → Option Fault
+mark_refusal d c p = ask (d.tradable c) NotTradable (ask (price_fits p) PriceOutOfRange None)
+
+abbrev pub reprice_refusal : Day → Market → ℕ → ℤ → Option Fault
+reprice_refusal d k c p =
+    ask (nat_lt c d.classes && (not (d.tradable c) && is_some (k.last c))) NotRepriceable
+    (ask (price_fits p) PriceOutOfRange None)
+
+-- ---- settle
+
+-- what a row is paid: against the last price, never the repricing
+abbrev pub settle_pay : Day → Market → ℤ → Row → ℤ
+settle_pay d k f r = final_payment (d.quantity d.settling) (r.lots d.settling) f (or_zero (k.last d.settling))
+
+abbrev pub row_settled : Day → Market → ℤ → Row → Row
+row_settled d k f r = record r { lots = put r.lots d.settling (pos 0); cash = r.cash +ℤ settle_pay d k f r }
+
+abbrev pub settle_refusal : Day → State → ℤ → ℕ → Option Fault
+settle_refusal d s f room =
+    ask (nat_le s.made.accounts room) ListTooShort
+    (ask (is_some (s.market.last d.settling)) NothingToSettle
+    (ask (price_fits f) PriceOutOfRange
+    (ask (all_rows s (λ r. cash_fits (row_settled d s.market f r).cash)) CashOutOfRange None)))
+
+-- ---- close
+
+-- the last price of a class once the day's prices have become the last ones
+abbrev pub newest : Day → Market → ℕ → Option ℤ
+newest d k c = cond (d.tradable c) (k.today c) (k.last c)
+
+-- first each tradable class pays its variation margin
+abbrev pub variation_pay : Day → Market → Row → ℕ → ℤ
+variation_pay d k r c =
+    if_z (d.tradable c) (variation (d.quantity c) (or_zero (k.today c)) (r.lots c) (or_zero (k.last c)) (r.traded c) (r.cost c))
+
+-- then a class with parts pays for each of them, by the part's quantity
+abbrev pub part_pay : Day → Market → Row → ℕ → ℕ → ℤ
+part_pay d k r c p =
+    if_z (d.part c p) (part_payment (d.quantity p) (r.lots c) (or_zero (newest d k p)) (or_zero (newest d k c)))
+
+-- what a row is paid for the parts, over all classes
+abbrev pub parts_pay : Day → Market → Row → ℤ
+parts_pay d k r = sum_z d.classes (λ c. sum_z d.classes (part_pay d k r c))
+
+abbrev pub close_pay : Day → Market → Row → ℤ
+close_pay d k r = sum_z d.classes (variation_pay d k r) +ℤ parts_pay d k r
+
+-- a class with parts gives its lots to each part and is emptied
+abbrev pub after_parts : Day → Row → ℕ → ℤ
+after_parts d r c = cond (d.whole c) (pos 0) (r.lots c +ℤ sum_z d.classes (λ e. if_z (d.part e c) (r.lots e)))
+
+-- lots move to the successor, and a class nobody succeeds to starts empty; the day's trades are done
+abbrev pub row_closed : Day → Market → Row → Row
+row_closed d k r = record {
+  lots = λ t. from (d.source t) (pos 0) (after_parts d r);
+  traded = λ c. pos 0;
+  cost = λ c. pos 0;
+  cash = r.cash +ℤ close_pay d k r;
+}
+
+-- last price and repricing move to the successor; a class nobody succeeds to has no price; a repricing lapses where its
+-- class becomes tradable on the next day
+abbrev pub market_closed : Day → Day → Market → Market
+market_closed d next k = record k {
+  day = next.day;
+  last = λ t. from (d.source t) None (newest d k);
+  today = λ c. None;
+  repriced = λ t. cond (next.tradable t) None (from (d.source t) None k.repriced);
+}
+
+abbrev pub close_refusal : Day → State → ℕ → Option Fault
+close_refusal d s room =
+    ask (nat_le s.made.accounts room) ListTooShort
+    (ask (all_below d.classes (λ c. cond (d.tradable c) (is_some (s.market.today c)) true)) ClassUnpriced
+    (ask (cond d.taken_over (not (is_some (s.market.last d.settling))) true) SettlingUnsettled
+    (ask (all_rows s (λ r. all_below d.classes (λ c. lots_fit (after_parts d r c)))) PartsOutOfRange
+    (ask (by_end d.next) NoDayLeft
+    (ask (all_rows s (λ r. cash_fits (row_closed d s.market r).cash)) CashOutOfRange None)))))
 
 -- ---- any call
 
+-- the first question that is answered no
+abbrev pub refusal_on : Day → State → Call → Option Fault
+refusal_on d s (Trade buyer seller c n p) = trade_refusal d s buyer seller c n p
+refusal_on d s (Mark c p) = mark_refusal d c p
+refusal_on d s (Reprice c p) = reprice_refusal d s.market c p
+refusal_on d s (Settle f room) = settle_refusal d s f room
+refusal_on d s (Close room) = close_refusal d s room
+
+-- what an accepted call makes of the market, on a day before another one: no row enters
+abbrev pub market_done : Day → Day → Market → Call → Market
+market_done d next k (Trade buyer seller c n p) = record k { accepted = k.accepted + 1 }
+market_done d next k (Mark c p) = record k { today = put k.today c (Some p) }
+market_done d next k (Reprice c p) = record k { repriced = put k.repriced c (Some p) }
+market_done d next k (Settle f room) = record k { last = put k.last d.settling None; repriced = put k.repriced d.settling None }
+market_done d next k (Close room) = market_closed d next k
+
+-- what it makes of an account's row: no other row enters
+abbrev pub row_done : Day → Market → Call → ℕ → Row → Row
+row_done d k (Trade buyer seller c n p) a r = row_traded c p (share buyer seller n a) r
+row_done d k (Mark c p) a r = r
+row_done d k (Reprice c p) a r = r
+row_done d k (Settle f room) a r = row_settled d k f r
+row_done d k (Close room) a r = row_closed d k r
+
+-- the cents that it pays into a row
+abbrev pub paid_on : Day → Market → Call → Row → ℤ
+paid_on d k (Trade buyer seller c n p) r = pos 0
+paid_on d k (Mark c p) r = pos 0
+paid_on d k (Reprice c p) r = pos 0
+paid_on d k (Settle f room) r = settle_pay d k f r
+paid_on d k (Close room) r = close_pay d k r
+
+-- ---- on the book's day
+
+abbrev pub today : Meaning → State → Day
+today w s = day_of w s.market.day
+
+abbrev pub tomorrow : Meaning → State → Day
+tomorrow w s = day_of w (next_day w s.market.day)
+
 abbrev pub refusal : Meaning → State → Call → Option Fault
-refusal w s (Trade buyer seller c n p) = trade_refusal w s buyer seller c n p
-refusal w s (Mark c p) = mark_refusal w s c p
-refusal w s (Reprice c p) = reprice_refusal w s c p
-refusal w s (Settle f room) = settle_refusal w s f room
-refusal w s (Close room) = close_refusal w s room
+refusal w s call = refusal_on (today w s) s call
 
 abbrev pub done : Meaning → State → Call → State
-done w s (Trade buyer seller c n p) = traded s buyer seller c n p
-done w s (Mark c p) = marked s c p
-done w s (Reprice c p) = repriced s c p
-done w s (Settle f room) = settled w s f
-done w s (Close room) = closed w s
+done w s call = record s {
+  market = market_done (today w s) (tomorrow w s) s.market call;
+  rows = λ a. row_done (today w s) s.market call a (s.rows a);
+}
 
 -- a refusal changes nothing
 abbrev pub after : Meaning → State → Call → State
-after w s k = unless (refusal w s k) (done w s k) s
+after w s call = unless (refusal w s call) (done w s call) s
+
+-- the cents that an accepted call pays an account
+abbrev pub paid : Meaning → State → Call → ℕ → ℤ
+paid w s call a = paid_on (today w s) s.market call (s.rows a)

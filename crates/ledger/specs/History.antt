@@ -1,14 +1,16 @@
 -- What happened to a book, told as a list of calls with their answers, the latest first, and what the law reads off it:
 -- from the terms' meaning, the start month and the history alone. Assumes nothing.
-use Rattle.std.specs.Prelude.{ℕ, Bool, true, false, cond, ◌&&◌, List, [], ◌∷◌, ℤ, pos, ◌+ℤ◌, ◌*ℤ◌, neg_ℤ, Some, None, Option, ◌==◌}
+use Rattle.std.specs.Prelude.{ℕ, ◌+◌, Bool, true, false, cond, ◌&&◌, List, [], ◌∷◌, ℤ, pos, ◌+ℤ◌, ◌*ℤ◌, Some, None, Option, ◌==◌}
 use Rattle.amounts.specs.SumsOfWhole.{if_z}
-use Rattle.ledger.specs.Calls.{source_below}
-use Rattle.ledger.specs.State.{start_day, next_day}
-use Rattle.ledger.specs.Words.{put, from}
+use Rattle.calendars.specs.Walks.{first_from}
+use Rattle.ledger.specs.State.{start_day}
+use Rattle.ledger.specs.Words.{put, from, share}
 use Rattle.ledger.specs.declared.call.Call.{Call}
 use Rattle.ledger.specs.declared.call.Call.TheVariants.{Trade, Mark, Reprice, Settle, Close}
 pub use Rattle.ledger.specs.declared.entry.Entry.{Entry}
 use Rattle.ledger.specs.declared.fault.Fault.{Fault}
+use Rattle.terms.specs.Day.{next_day}
+use Rattle.terms.specs.Laws.{names}
 use Rattle.terms.specs.Meaning.{Meaning, has, tradable, successor, class_quantity}
 
 abbrev pub History : Type 0
@@ -18,6 +20,13 @@ abbrev pub accepted : Option Fault → Bool
 accepted None = true
 accepted (Some f) = false
 
+abbrev pub is_trade : Call → Bool
+is_trade (Trade buyer seller c n p) = true
+is_trade (Mark c p) = false
+is_trade (Reprice c p) = false
+is_trade (Settle f room) = false
+is_trade (Close room) = false
+
 abbrev pub is_close : Call → Bool
 is_close (Trade buyer seller c n p) = false
 is_close (Mark c p) = false
@@ -25,9 +34,17 @@ is_close (Reprice c p) = false
 is_close (Settle f room) = false
 is_close (Close room) = true
 
--- the entry is an accepted close
+-- the entry is an accepted trade, or an accepted close
+abbrev pub trades : Entry → Bool
+trades e = accepted e.answer && is_trade e.call
+
 abbrev pub closes : Entry → Bool
 closes e = accepted e.answer && is_close e.call
+
+-- how many trades were accepted
+unfoldable pub trade_count : History → ℕ
+trade_count [] = 0
+trade_count (e ∷ h) = cond (trades e) (trade_count h + 1) (trade_count h)
 
 -- the day after the history: the start month's first open day, and one open day on for each accepted close
 unfoldable pub day_after : Meaning → ℕ → History → ℕ
@@ -36,13 +53,9 @@ day_after w start (e ∷ h) = cond (closes e) (next_day w (day_after w start h))
 
 -- ---- what one accepted call means on a day
 
--- an account's lots in a trade: a buy by the buyer, a sell by the seller
-abbrev pub dealt : ℕ → ℕ → ℤ → ℕ → ℤ
-dealt buyer seller n a = if_z (a == buyer) n +ℤ if_z (a == seller) (neg_ℤ n)
-
 -- an account's buys less sells of a month: those of a trade whose class has the month that day
 abbrev pub month_lots : Meaning → ℕ → Call → ℕ → ℕ → ℤ
-month_lots w d (Trade buyer seller c n p) a m = if_z (has (w.on d c) m) (dealt buyer seller n a)
+month_lots w d (Trade buyer seller c n p) a m = if_z (has (w.on d c) m) (share buyer seller n a)
 month_lots w d (Mark c p) a m = pos 0
 month_lots w d (Reprice c p) a m = pos 0
 month_lots w d (Settle f room) a m = pos 0
@@ -50,7 +63,7 @@ month_lots w d (Close room) a m = pos 0
 
 -- an account's buys less sells in a class
 abbrev pub class_lots : Call → ℕ → ℕ → ℤ
-class_lots (Trade buyer seller c n p) a i = if_z (i == c) (dealt buyer seller n a)
+class_lots (Trade buyer seller c n p) a i = if_z (i == c) (share buyer seller n a)
 class_lots (Mark c p) a i = pos 0
 class_lots (Reprice c p) a i = pos 0
 class_lots (Settle f room) a i = pos 0
@@ -58,7 +71,7 @@ class_lots (Close room) a i = pos 0
 
 -- an account's trade at cost: lots × the class's quantity that day × price, sales negative
 abbrev pub at_cost : Meaning → ℕ → Call → ℕ → ℤ
-at_cost w d (Trade buyer seller c n p) a = pos (class_quantity w (w.on d c)) *ℤ (dealt buyer seller n a *ℤ p)
+at_cost w d (Trade buyer seller c n p) a = pos (class_quantity w (w.on d c)) *ℤ (share buyer seller n a *ℤ p)
 at_cost w d (Mark c p) a = pos 0
 at_cost w d (Reprice c p) a = pos 0
 at_cost w d (Settle f room) a = pos 0
@@ -80,15 +93,18 @@ mark_of (Reprice c p) today = today
 mark_of (Settle f room) today = today
 mark_of (Close room) today = λ c. None
 
--- the last prices that a call leaves: a close gives each class those of the class that it succeeds, the day's price where
--- that one was tradable; a settle takes that of the settling class
+-- the class that hands over to class t on a day, if one does
+abbrev pub giver : Meaning → ℕ → ℕ → Option ℕ
+giver w d t = first_from (λ c. names (successor (w.on d c)) t) 0 w.classes
+
+-- the last prices that a call leaves: a close gives each class that of the class that hands over to it, the day's price
+-- where that one was tradable; a settle takes that of the settling class
 abbrev pub last_of : Meaning → ℕ → Call → (ℕ → Option ℤ) → (ℕ → Option ℤ) → ℕ → Option ℤ
 last_of w d (Trade buyer seller c n p) today last = last
 last_of w d (Mark c p) today last = last
 last_of w d (Reprice c p) today last = last
 last_of w d (Settle f room) today last = put last w.settling None
-last_of w d (Close room) today last =
-    λ t. from (source_below (λ c. successor (w.on d c)) t w.classes) None (λ c. cond (tradable (w.on d c)) (today c) (last c))
+last_of w d (Close room) today last = λ t. from (giver w d t) None (λ c. cond (tradable (w.on d c)) (today c) (last c))
 
 -- ---- what a history means
 

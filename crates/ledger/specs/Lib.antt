@@ -6,4 +6,3 @@ pub mod Make
 pub mod Questions
 pub mod History
 pub mod Ledger
-pub mod Prices

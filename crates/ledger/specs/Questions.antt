@@ -1,10 +1,10 @@
--- The calls that only ask: margins, holding and cash; and the payment lists of close and settle. Assumes nothing.
-use Rattle.std.specs.Prelude.{ℕ, Bool, true, cond, List, ◌++◌, map, get_or, drop, ℤ, pos, ◌+ℤ◌, is_some, Some, None, Option, ◌==◌, nat_lt, unsigned_abs}
+-- The calls that only ask: margins, holding and cash; and the payment lists of settle and close. Assumes nothing.
+use Rattle.std.specs.Prelude.{ℕ, Bool, true, cond, List, ◌++◌, map, get_or, drop, ℤ, ◌+ℤ◌, is_some, Some, None, Option, ◌==◌, nat_lt, unsigned_abs, pos}
 use Rattle.amounts.specs.Amounts.{class_margin, repricing_addition, total_margin}
 use Rattle.amounts.specs.SumsOfWhole.{sum_z}
 use Rattle.coded.specs.Places.{place}
 use Rattle.coded.specs.declared.class_line.ClassLine.{ClassLine}
-use Rattle.ledger.specs.Calls.{known, settle_pay, close_pay, settle_refusal, close_refusal}
+use Rattle.ledger.specs.Calls.{known, paid, refusal}
 use Rattle.ledger.specs.State.{State, class_now, quantity_now}
 use Rattle.ledger.specs.Words.{ask, all_below, or_zero, from, unless}
 use Rattle.ledger.specs.declared.call.Call.{Call}
@@ -20,7 +20,7 @@ use Rattle.terms.specs.declared.class_terms.ClassTerms.{ClassTerms}
 
 -- every class that the account holds has a last price
 abbrev pub held_priced : Meaning → State → ℕ → Bool
-held_priced w s a = all_below w.classes (λ c. cond (unsigned_abs (s.lots a c) == 0) true (is_some (s.last c)))
+held_priced w s a = all_below w.classes (λ c. cond (unsigned_abs ((s.rows a).lots c) == 0) true (is_some (s.market.last c)))
 
 abbrev pub margins_refusal : Meaning → State → ℕ → Option Fault
 margins_refusal w s a = ask (known s a) UnknownAccount (ask (held_priced w s a) HeldUnpriced None)
@@ -49,13 +49,12 @@ abbrev pub margin_of : Option ℤ → Option ℤ → ℕ → ℕ → ℤ → ℤ
 margin_of repriced last i q h = class_margin (margin_price repriced last) i q h +ℤ repricing_of repriced last q h
 
 -- an account's margin in a class
-abbrev pub margin_in : Meaning → List ClassLine → State → ℕ → ℕ → ℤ
-margin_in w lines s a c =
-    class_margin (margin_price (s.repriced c) (s.last c)) (interval_of lines (class_now w s c)) (quantity_now w s c) (s.lots a c)
-    +ℤ repricing_of (s.repriced c) (s.last c) (quantity_now w s c) (s.lots a c)
+abbrev pub margin_in : Meaning → State → ℕ → ℕ → ℤ
+margin_in w s a c =
+    margin_of (s.market.repriced c) (s.market.last c) (interval_of s.made.lines (class_now w s c)) (quantity_now w s c) ((s.rows a).lots c)
 
-abbrev pub margins : Meaning → List ClassLine → State → ℕ → ℤ
-margins w lines s a = total_margin (sum_z w.classes (margin_in w lines s a))
+abbrev pub margins : Meaning → State → ℕ → ℤ
+margins w s a = total_margin (sum_z w.classes (margin_in w s a))
 
 -- ---- holding and cash
 
@@ -63,13 +62,13 @@ abbrev pub holding_refusal : Meaning → State → ℕ → ℕ → Option Fault
 holding_refusal w s a c = ask (known s a) UnknownAccount (ask (nat_lt c w.classes) UnknownClass None)
 
 abbrev pub holding : State → ℕ → ℕ → ℤ
-holding s a c = s.lots a c
+holding s a c = (s.rows a).lots c
 
 abbrev pub cash_refusal : State → ℕ → Option Fault
 cash_refusal s a = ask (known s a) UnknownAccount None
 
 abbrev pub cash : State → ℕ → ℤ
-cash s a = s.cash a
+cash s a = (s.rows a).cash
 
 -- ---- payment lists
 
@@ -81,10 +80,14 @@ payment_lines n pays = map (λ a. record { account = a; cents = pays a }) (range
 abbrev pub written : List Payment → ℕ → (ℕ → ℤ) → List Payment
 written list n pays = payment_lines n pays ++ drop n list
 
--- a payment list after any call: settle and close write into it, and a refusal leaves it as it was
+-- an accepted settle and an accepted close write into the list, the other calls do not
+abbrev pub list_done : Meaning → State → Call → List Payment → List Payment
+list_done w s (Trade buyer seller c n p) list = list
+list_done w s (Mark c p) list = list
+list_done w s (Reprice c p) list = list
+list_done w s (Settle f room) list = written list s.made.accounts (paid w s (Settle f room))
+list_done w s (Close room) list = written list s.made.accounts (paid w s (Close room))
+
+-- a payment list after any call: a refusal leaves it as it was
 abbrev pub list_after : Meaning → State → Call → List Payment → List Payment
-list_after w s (Trade buyer seller c n p) list = list
-list_after w s (Mark c p) list = list
-list_after w s (Reprice c p) list = list
-list_after w s (Settle f room) list = unless (settle_refusal w s f room) (written list s.accounts (settle_pay w s f)) list
-list_after w s (Close room) list = unless (close_refusal w s room) (written list s.accounts (close_pay w s)) list
+list_after w s call list = unless (refusal w s call) (list_done w s call list) list

@@ -1,5 +1,6 @@
--- Small words: the first question answered no, ranges, prices that may be missing, places of rows. Assumes nothing.
-use Rattle.std.specs.Prelude.{ℕ, zero, suc, Bool, true, false, cond, ◌&&◌, List, ℤ, pos, Some, None, Option, ◌==◌, int_le, slice_index_or}
+-- Small words: the first question answered no, ranges, prices that may be missing, places of tables. Assumes nothing.
+use Rattle.std.specs.Prelude.{ℕ, zero, suc, Bool, true, false, cond, ◌&&◌, List, ℤ, pos, neg_ℤ, Some, None, Ok, Err, Option, Result, ◌+ℤ◌, ◌==◌, int_le, slice_index_or}
+use Rattle.amounts.specs.SumsOfWhole.{if_z}
 use Rattle.ledger.specs.declared.fault.Fault.{Fault}
 
 -- a question: where it is answered no its fault is the answer, else the questions go on
@@ -33,6 +34,15 @@ abbrev pub unless : {A : Type 0} → Option Fault → A → A → A
 unless None accepted refused = accepted
 unless (Some f) accepted refused = refused
 
--- what stands at a place of a row, and 0 past its end
+-- how a call replies: an answer, or the question answered no
+abbrev pub reply : {A : Type 0} → Option Fault → A → Result A Fault
+reply None x = Ok x
+reply (Some f) x = Err f
+
+-- what stands at a place of a list, and 0 past its end
 abbrev pub at : List ℤ → ℕ → ℤ
 at xs c = slice_index_or xs c (pos 0)
+
+-- what a trade of n lots brings an account: n to the buyer, −n to the seller
+abbrev pub share : ℕ → ℕ → ℤ → ℕ → ℤ
+share buyer seller n a = if_z (a == buyer) n +ℤ if_z (a == seller) (neg_ℤ n)

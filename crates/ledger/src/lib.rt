@@ -4,14 +4,10 @@ mod call;
 mod entry;
 mod fault;
 mod law;
-mod limit;
 mod payment;
-mod prices;
 
 pub use call::Call;
 pub use entry::Entry;
 pub use fault::Fault;
 pub use law::ledger_stands;
-pub use limit::is_within_limit;
 pub use payment::Payment;
-pub use prices::ClassPrices;
