@@ -1,9 +1,2 @@
-pub mod Tables
-pub mod TablesLaw
-pub mod InUse
-pub mod Sound
-pub mod Paying
-pub mod Settling
-pub mod Closes
-pub mod Replies
-pub mod Lines
+pub mod Markets
+pub mod Rows
