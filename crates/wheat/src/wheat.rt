@@ -7,7 +7,7 @@ ghost use Rattle.wheat.specs.WheatLaws.{wheat-laws};
 
 use crate::classes::{CLASSES, DEL, T01, row};
 use crate::expiries::{expiry_month, front_expiry};
-use calendars::{Calendar, OpenDays};
+use calendars::Calendar;
 use dates::MONTH_COUNT;
 use std::array;
 use terms::{ClassTerms, Months, Terms};
@@ -18,12 +18,20 @@ const TONS: u32 = 50;
 // T01 takes the interval of DEL while no more open days than these remain to its last trading day.
 const NEAR: u32 = 6;
 
-// Whether so few open days remain after a day, to T01's last trading day and with it.
+// Whether so few open days remain after a day, to T01's last trading day and with it. It looks no further than the first
+// open day beyond so many.
 fn is_near<C: Calendar>(calendar: &C, day: u32, last: u32) -> bool
     requires { (day < 36525) × (last ≤ 36525) }
     ensures { result ≡ is_near (C.opens calendar.now) day last }
 {
-    calendars::count_between(&OpenDays { calendar }, day + 1, last + 1) <= NEAR
+    let mut found = 0;
+    for later in day + 1..last + 1 {
+        found += u32::from(calendar.is_open(later));
+        if found > NEAR {
+            return false;
+        }
+    }
+    true
 }
 
 // What a day is to all classes: T01's expiry, whether its last trading day is near, and whether the day is that.
