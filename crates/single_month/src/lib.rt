@@ -2,9 +2,10 @@
 // A tiny product: the next month trades, the current one settles.
 //
 // This crate shows how to write terms of one's own, in three steps. `specs/Single.antt` says what each class is on a day,
-// and nothing of how that is found. This file has the five calls of `Terms`, which answer just that, with small functions
-// below them, and none of these wants a proof by hand. `specs/SingleLaws.antt` shows law by law that such classes keep the
-// laws of terms over every calendar; without it there is no `impl` below, and no book over this product.
+// and nothing of how that is found. This file has five calls of `Terms`, which answer just that, with small functions
+// below them, and none of these wants a proof by hand; the sixth, for all classes of a day, comes with the trait.
+// `specs/SingleLaws.antt` shows law by law that such classes keep the laws of terms over every calendar; without it there
+// is no `impl` below, and no book over this product.
 ghost use Rattle.std.specs.Prelude.{◌≡◌, ◌+◌, ◌<◌, ◌==◌};
 ghost use Rattle.terms.specs.Chain.{moves_up};
 ghost use Rattle.single_month.specs.Single.{chain, class_in, single};

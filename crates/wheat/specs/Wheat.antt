@@ -58,20 +58,27 @@ abbrev pub class_name : ℕ → Option (List ℕ)
 class_name c =
     slice_index_or (Some (codes "T01") ∷ Some (codes "T02") ∷ Some (codes "T03") ∷ Some (codes "T04") ∷ Some (codes "T05") ∷ Some (codes "DEL") ∷ []) c None
 
--- each class takes its own interval, but T01 takes DEL's where at most six open days come after the day, as far as its
--- last trading day and with it
-abbrev pub class_of_interval : (ℕ → Bool) → ℕ → ℕ → ℕ → ℕ
-class_of_interval f d last c = cond (c == 0 && nat_le (between f (d + 1) (last + 1)) 6) 5 c
+-- at most six open days come after a day, as far as T01's last trading day and with it
+abbrev pub is_near : (ℕ → Bool) → ℕ → ℕ → Bool
+is_near f d last = nat_le (between f (d + 1) (last + 1)) 6
+
+-- each class takes its own interval, but T01 takes DEL's where its last trading day is near
+abbrev pub class_of_interval : Bool → ℕ → ℕ
+class_of_interval near c = cond (c == 0 && near) 5 c
+
+-- a class where T01 has the expiry k, from whether its last trading day is near and whether the day is that
+abbrev pub class_from : ℕ → Bool → Bool → ℕ → ClassTerms
+class_from k near lasts c = record {
+  months = record { first = expiry_month (k + wheat_chain.place c - 1); count = 1 };
+  tradable = not (c == 5);
+  interval_class = class_of_interval near c;
+  parts = replicate 12 false;
+  successor = moves_up lasts (wheat_chain.earlier c) c;
+}
 
 -- a class on a day on which T01 has the expiry k
 abbrev pub class_with : (ℕ → Bool) → ℕ → ℕ → ℕ → ClassTerms
-class_with f d k c = record {
-  months = record { first = expiry_month (k + wheat_chain.place c - 1); count = 1 };
-  tradable = not (c == 5);
-  interval_class = class_of_interval f d (last_day f k) c;
-  parts = replicate 12 false;
-  successor = moves_up (last_day f k == d) (wheat_chain.earlier c) c;
-}
+class_with f d k c = class_from k (is_near f d (last_day f k)) (last_day f k == d) c
 
 abbrev pub wheat_class : (ℕ → Bool) → ℕ → ℕ → ClassTerms
 wheat_class f d c = class_with f d (front_expiry f d) c

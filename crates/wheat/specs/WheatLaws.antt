@@ -1,15 +1,13 @@
 -- Durum wheat keeps the laws of terms over every calendar, and the law of T01. Assumes nothing.
-use Rattle.std.specs.Prelude.{◌≡◌, ℕ, ◌+◌, ◌-◌, ◌<◌, ◌≤◌, Bool, true, false, cond, not, ◌&&◌, ◌||◌, leb, is_some, Some, None, Option, MatchOption, ◌==◌, ◌≢◌, nat_le, nat_lt, refl}
+use Rattle.std.specs.Prelude.{◌≡◌, ℕ, ◌+◌, ◌-◌, ◌<◌, ◌≤◌, Bool, true, false, cond, not, ◌&&◌, ◌||◌, leb, is_some, Some, None, Option, MatchOption, ◌==◌, ◌≢◌, nat_le, refl}
 use Rattle.std.proofs.Common.{sym, ap, subst, ◌∙◌, ⊎_elim, arith, lit≤}
-use Rattle.std.proofs.lemmas.Bool.{cond_both, cond-true, cond-false, false≢true, both_ways, and_parts, or_cases, eqb-true, leb-true, ltb-true, eq-eqb, ne_eqb}
-use Rattle.dates.specs.Dates.{when, start}
+use Rattle.std.proofs.lemmas.Bool.{cond_both, cond-true, cond-false, false≢true, both_ways, and_parts, or_cases, eqb-true, leb-true, eq-eqb, ne_eqb}
+use Rattle.dates.specs.Dates.{start}
 use Rattle.dates.proofs.Below.{at}
-use Rattle.dates.proofs.MonthLaws.{told}
 use Rattle.calendars.specs.Calendars.{Lawful}
 use Rattle.calendars.specs.Walks.{First}
 use Rattle.terms.specs.Chain.{moves_up}
 use Rattle.terms.specs.Laws.{Laws, names}
-use Rattle.terms.specs.Listing.{answers_for}
 use Rattle.terms.specs.Meaning.{answers, any_below, one, months_of, successor}
 use Rattle.terms.specs.declared.class_terms.Months.{Months}
 use Rattle.terms.proofs.Chains.{moved, apart}
@@ -79,14 +77,6 @@ module _ (f : ℕ → Bool) (law : Lawful f) where
 
   pub wheat-laws : Laws (wheat f)
   wheat-laws = laws f 6 5 (λ _. 50) (wheat_class f) kept
-
-  -- what is known of a class that is answered
-  pub class-range : (d c k : ℕ) → answers_for f 6 d c ≡ true → Some k ≡ when (nat_lt d 36525) (front_expiry f d) → (d < 36525) × ((0 < k) × ((k < 396) × (c < 6)))
-  class-range d c k e q =
-      let t = and_parts _ _ e in
-      let b = front-bounds f law.four d (answered-day f d t.0) in
-      let u = told (nat_lt d 36525) k (front_expiry f d) q in
-      (ltb-true d 36525 u.0, (omega (arith, u.1), (omega (arith, u.1), ltb-true c 6 t.1)))
 
   on : (d c : ℕ) → answers (wheat f) d ≡ true → c < 6 → (wheat f).on d c ≡ Some (wheat_class f d c)
   on d c e h = on-answered f 6 5 (λ _. 50) (wheat_class f) d c (answered-day f d e) h

@@ -1,5 +1,6 @@
 // The expiries of durum wheat: March, May, September and December of every year, numbered from 0, March 2000, to 399.
-ghost use Rattle.std.specs.Prelude.{◌≡◌, ◌<◌, ◌≤◌, MatchOption, nat_lt};
+ghost use Rattle.std.specs.Prelude.{◌≡◌, ◌<◌, ◌≤◌, MatchOption, IfSome, nat_lt};
+ghost use Rattle.std.specs.Option.{option_map};
 ghost use Rattle.dates.specs.Dates.{when};
 ghost use Rattle.wheat.specs.Wheat.{expiry_month, expiries_before, tenth, last_trading_day, last_day, not_past, front_expiry, FrontIsFirstNotPast};
 
@@ -61,21 +62,38 @@ pub(crate) fn last_day<C: Calendar>(calendar: &C, expiry: u32) -> u32
     last_trading_day(calendar, expiry).unwrap_or(DAY_COUNT)
 }
 
+// An expiry and its last trading day, as a number.
+#[derive(Clone, Copy)]
+pub(crate) struct Expiry {
+    pub(crate) number: u32,
+    pub(crate) last: u32,
+    ghost bound: { last ≤ 36525 },
+}
+
 // An expiry, or the next where its last trading day is past.
-fn not_past<C: Calendar>(calendar: &C, expiry: u32, day: u32) -> u32
+fn not_past<C: Calendar>(calendar: &C, expiry: u32, day: u32) -> Expiry
     requires { expiry < 400 }
-    ensures { result ≡ not_past (C.opens calendar.now) expiry day }
+    ensures number { result.number ≡ not_past (C.opens calendar.now) expiry day }
+    ensures last { result.last ≡ last_day (C.opens calendar.now) result.number }
 {
-    if last_day(calendar, expiry) < day {
-        expiry + 1
+    let last = last_day(calendar, expiry);
+    if last < day {
+        Expiry {
+            number: expiry + 1,
+            last: last_day(calendar, expiry + 1),
+        }
     } else {
-        expiry
+        Expiry {
+            number: expiry,
+            last,
+        }
     }
 }
 
 // The expiry of T01: the first from the day's month on that is not past.
-pub(crate) fn front_expiry<C: Calendar>(calendar: &C, day: u32) -> Option<u32>
-    ensures { result ≡ when (nat_lt day 36525) (front_expiry (C.opens calendar.now) day) }
+pub(crate) fn front_expiry<C: Calendar>(calendar: &C, day: u32) -> Option<Expiry>
+    ensures number { option_map (λ x. x.number) result ≡ when (nat_lt day 36525) (front_expiry (C.opens calendar.now) day) }
+    ensures last { IfSome result (λ x. x.last ≡ last_day (C.opens calendar.now) x.number) }
 {
     let month = dates::month_of(day)?;
     Some(not_past(calendar, expiries_before(month), day))

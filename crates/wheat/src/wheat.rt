@@ -1,12 +1,15 @@
 // Durum wheat as terms.
-ghost use Rattle.std.specs.Prelude.{◌≡◌, ◌<◌, ◌≤◌};
-ghost use Rattle.wheat.specs.Wheat.{class_of_interval, class_with, wheat};
+ghost use Rattle.std.specs.Prelude.{◌≡◌, ◌<◌, ◌≤◌, ◌==◌, is_some, IfSome, nat_lt};
+ghost use Rattle.dates.specs.Dates.{when};
+ghost use Rattle.terms.specs.Listing.{answers_for};
+ghost use Rattle.wheat.specs.Wheat.{last_day, front_expiry, is_near, class_of_interval, class_from, wheat};
 ghost use Rattle.wheat.specs.WheatLaws.{wheat-laws};
 
 use crate::classes::{CLASSES, DEL, T01, row};
-use crate::expiries::{expiry_month, front_expiry, last_day};
-use calendars::{Calendar, OpenDays};
+use crate::expiries::{expiry_month, front_expiry};
+use calendars::Calendar;
 use dates::MONTH_COUNT;
+use std::array;
 use terms::{ClassTerms, Months, Terms};
 
 // The tons of one lot in a month.
@@ -15,38 +18,86 @@ const TONS: u32 = 50;
 // T01 takes the interval of DEL while no more open days than these remain to its last trading day.
 const NEAR: u32 = 6;
 
-// The class whose margin interval a class takes, where `last` is T01's last trading day.
-fn interval_class<C: Calendar>(calendar: &C, day: u32, last: u32, class: u32) -> u32
+// Whether so few open days remain after a day, to T01's last trading day and with it. It looks no further than the first
+// open day beyond so many.
+fn is_near<C: Calendar>(calendar: &C, day: u32, last: u32) -> bool
     requires { (day < 36525) × (last ≤ 36525) }
-    ensures { result ≡ class_of_interval (C.opens calendar.now) day last class }
+    ensures { result ≡ is_near (C.opens calendar.now) day last }
 {
-    if class == T01 && calendars::count_between(&OpenDays { calendar }, day + 1, last + 1) <= NEAR {
-        DEL
-    } else {
-        class
+    let mut found = 0;
+    for later in day + 1..last + 1 {
+        found += u32::from(calendar.is_open(later));
+        if found > NEAR {
+            return false;
+        }
     }
+    true
 }
 
-// A class on a day on which T01 has the expiry `front`.
-fn class_with<C: Calendar>(calendar: &C, day: u32, front: u32, class: u32) -> ClassTerms
-    requires { (day < 36525) × ((0 < front) × ((front < 396) × (class < 6))) }
-    ensures { result ≡ class_with (C.opens calendar.now) day front class }
+// What a day is to all classes: T01's expiry, whether its last trading day is near, and whether the day is that.
+#[derive(Clone, Copy)]
+struct FrontDay {
+    front: u32,
+    near: bool,
+    lasts: bool,
+    ghost in_range: { (0 < front) × (front < 396) },
+}
+
+// The day, if wheat answers for the class on it.
+fn answered_day<C: Calendar>(calendar: &C, day: u32, class: u32) -> Option<FrontDay>
+    ensures answers { is_some result ≡ answers_for (C.opens calendar.now) 6 day class }
+    ensures front { IfSome result (λ d. d.front ≡ front_expiry (C.opens calendar.now) day) }
+    ensures near { IfSome result (λ d. d.near ≡ is_near (C.opens calendar.now) day (last_day (C.opens calendar.now) d.front)) }
+    ensures lasts { IfSome result (λ d. d.lasts ≡ (last_day (C.opens calendar.now) d.front == day)) }
+{
+    if !terms::answers_for(calendar, CLASSES, day, class) {
+        return None;
+    }
+    let front = front_expiry(calendar, day)?;
+    Some(FrontDay {
+        front: front.number,
+        near: is_near(calendar, day, front.last),
+        lasts: front.last == day,
+    })
+}
+
+// The class whose margin interval a class takes.
+fn interval_class(near: bool, class: u32) -> u32
+    ensures { result ≡ class_of_interval near class }
+{
+    if class == T01 && near { DEL } else { class }
+}
+
+// A class on such a day.
+fn class_from(day: FrontDay, class: u32) -> ClassTerms
+    requires { class < 6 }
+    ensures { result ≡ class_from day.front day.near day.lasts class }
 {
     let class_row = row(class);
-    let last = last_day(calendar, front);
     ClassTerms {
         months: Months {
-            first: expiry_month(front + class_row.place - 1),
+            first: expiry_month(day.front + class_row.place - 1),
             count: class_row.period.months(),
         },
         tradable: class != DEL,
-        interval_class: interval_class(calendar, day, last, class),
+        interval_class: interval_class(day.near, class),
         parts: [false; 12],
-        successor: if last == day {
+        successor: if day.lasts {
             class_row.earlier
         } else {
             Some(class)
         },
+    }
+}
+
+// The same for every number: none past the last class.
+fn class_in(day: FrontDay, class: u32) -> Option<ClassTerms>
+    ensures { result ≡ when (nat_lt class 6) (class_from day.front day.near day.lasts class) }
+{
+    if class < CLASSES {
+        Some(class_from(day, class))
+    } else {
+        None
     }
 }
 
@@ -78,10 +129,13 @@ impl<C: Calendar> Terms for Wheat<C> {
     }
 
     fn class_on(&self, day: u32, class: u32) -> Option<ClassTerms> {
-        if !terms::answers_for(&self.calendar, CLASSES, day, class) {
-            return None;
-        }
-        let front = front_expiry(&self.calendar, day)?;
-        Some(class_with(&self.calendar, day, front, class))
+        class_in(answered_day(&self.calendar, day, class)?, class)
+    }
+
+    fn classes_on(&self, day: u32) -> [Option<ClassTerms>; 12] {
+        let Some(here) = answered_day(&self.calendar, day, T01) else {
+            return [None; 12];
+        };
+        array::from_fn(|class| class_in(here, class as u32))
     }
 }

@@ -1,7 +1,10 @@
 use Rattle.std.proofs.Common.{sym, ◌∙◌}
-use Rattle.wheat.specs.WheatLaws.{class-range}
+use Rattle.std.proofs.lemmas.Bool.{and_parts}
+use Rattle.wheat.proofs.Days.{answer-is}
 use Rattle.wheat.proofs.wheat.WheatTerms.class_on.Goals as goal
 
-pub class_with-requires : goal.class_with-requires
-class_with-requires g c =
-    class-range (g.C.Calendar.opens c.args.self.now.calendar) (g.met.C.Calendar.lawful c.args.self.now.calendar) c.args.day c.args.class c.in_ok-front.front (sym c.answers_for.ensures ∙ c.if-not-answers_for.false) c.in_ok-front.ensures
+pub returns : goal.returns
+returns g c =
+    let told = c.in_ok-answered_day.ensures in
+    c.class_in.ensures
+    ∙ answer-is (g.C.Calendar.opens c.args.self.now.calendar) c.args.day _ _ _ (and_parts _ _ (sym told.answers)).0 told.front told.near told.lasts c.args.class
