@@ -6,19 +6,15 @@ use Rattle.std.proofs.lemmas.List.{get_or_past}
 use Rattle.std.proofs.lemmas.Option.{none-some}
 use Rattle.std.proofs.lemmas.Bool.Decides.{nat_tests}
 use Rattle.calendars.specs.Calendars.{Lawful}
-use Rattle.calendars.specs.Walks.{left, left_in_month}
-use Rattle.dates.proofs.MonthLaws.{told}
-use Rattle.dates.specs.Dates.{when, month_of, month_of_day}
-use Rattle.power.specs.Periods.{Left, left-of, own_is, turns-is, own-next}
+use Rattle.dates.specs.Dates.{month_of}
+use Rattle.power.specs.Periods.{Left, left-of, own-next}
 use Rattle.power.specs.Tables.{chain_fits, by_length, room, behind, last-in-chain, by_parts, fine, year-part-fine, quarter-part-fine}
 use Rattle.power.specs.Classes.{length_of, place_of, earlier, no_parts, quarter_parts, year_parts, cascade, chain}
 use Rattle.power.specs.Hours.{Bounded}
-use Rattle.power.specs.Monthly.{turns_by, class_by}
-use Rattle.power.specs.Power.{left_of, own, turns, class_from, power_class, power}
+use Rattle.power.specs.Power.{left_of, own, turns, power_class, power}
 use Rattle.terms.proofs.Chains.{moved, apart}
-use Rattle.terms.proofs.Listings.{no_part, Answered, answered-month, Kept, laws, on-answered}
+use Rattle.terms.proofs.Listings.{no_part, answered-month, Kept, laws}
 use Rattle.terms.specs.Chain.{moves_up}
-use Rattle.terms.specs.Listing.{answers_for}
 use Rattle.terms.specs.Laws.{Laws, names}
 use Rattle.terms.specs.Meaning.{sum_below, any_below, one, in_months}
 use Rattle.terms.specs.declared.class_terms.Months.{Months}
@@ -169,15 +165,3 @@ module _ (f : ℕ → Bool) (law : Lawful f) (second : Bool) where
 
 pub power-laws : (f : ℕ → Bool) (q : ℕ → ℕ) (second : Bool) → Lawful f → Bounded q → Laws (power f q second)
 power-laws f q second law bounded = laws f 11 10 q (power_class f second) (kept f law second q bounded)
-
--- the code's answer, from the day's month and the open days left in it
-pub class-answer : (f : ℕ → Bool) (second : Bool) (d c m l : ℕ) → Lawful f → Answered f d → c < 11 → Some m ≡ month_of_day d → Some l ≡ left_in_month f d → Some (class_by m l second c) ≡ when (answers_for f 11 d c) (power_class f second d c)
-class-answer f second d c m l law a h month left_in =
-    let r = answered-month f d a in
-    let x = (told (nat_lt d 36525) m (month_of d) month).1 in
-    let y = (told (nat_lt d 36525) l (left f d) left_in).1 in
-    let o = own_is f law d (omega arith) c h in
-    let t = turns-is f law d (omega arith) c h in
-    let z = (left-of f law d (omega arith) 0 (omega arith)).last (omega arith) in
-    ap Some (ap (λ m. class_by m l second c) x ∙ ap (λ l. class_by (month_of d) l second c) y ∙ ap (λ n. class_from n (turns_by (length_of c) (month_of d) (left f d)) (left f d) second c) (sym o) ∙ ap (λ b. class_from (own f (length_of c) d) b (left f d) second c) (sym t) ∙ ap (λ n. class_from (own f (length_of c) d) (turns f (length_of c) d) n second c) (sym z))
-    ∙ sym (on-answered f 11 10 (λ _. 0) (power_class f second) d c a h)

@@ -1,7 +1,7 @@
 // A class, from a day's month and the open days left in it.
 ghost use Rattle.std.specs.Prelude.{◌≡◌, ℕ, ◌<◌, ◌≤◌, if◌then◌else◌};
 ghost use Rattle.power.specs.Classes.{no_parts, cascade};
-ghost use Rattle.power.specs.Monthly.{own_by, turns_by, class_by};
+ghost use Rattle.power.specs.Monthly.{own_by, turns_by, PeriodOn, class_by};
 ghost use Rattle.terms.specs.Period.{months_in};
 
 use crate::classes::{D01, M01, Q01, Y01, Y02, row};
@@ -54,33 +54,85 @@ fn parts(class: u32, turning: bool) -> [bool; 12]
     }
 }
 
-pub(crate) fn class_at(day: DayInMonth, second_year: bool, class: u32) -> ClassTerms
-    requires { class < 11 }
-    ensures { result ≡ class_by day.month day.left second_year class }
+// What a day is to the classes of one period length: the number of its own period, and whether they move up after it.
+#[derive(Clone, Copy)]
+struct PeriodDay {
+    own: u32,
+    turning: bool,
+}
+
+fn period_day(period: Period, day: DayInMonth) -> PeriodDay
+    ensures { PeriodOn (months_in period) day.month day.left result }
 {
-    let class_row = row(class);
-    let count = class_row.period.months();
-    let turning = turns(class_row.period, day);
-    ClassTerms {
-        months: Months {
-            first: count * (own(class_row.period, day) + class_row.place - 1),
-            count,
-        },
-        tradable: if class == Y02 {
-            second_year
-        } else {
-            class < D01
-        },
-        interval_class: if class == M01 && day.left <= 1 {
-            D01
-        } else {
-            class
-        },
-        parts: parts(class, turning),
-        successor: if turning {
-            class_row.earlier
-        } else {
-            Some(class)
-        },
+    PeriodDay {
+        own: own(period, day),
+        turning: turns(period, day),
+    }
+}
+
+// What a day is to the classes of each length, worked out once for all of them.
+#[derive(Clone, Copy)]
+pub(crate) struct Periods {
+    day: DayInMonth,
+    month: PeriodDay,
+    quarter: PeriodDay,
+    year: PeriodDay,
+    ghost months: { PeriodOn 1 day.month day.left month },
+    ghost quarters: { PeriodOn 3 day.month day.left quarter },
+    ghost years: { PeriodOn 12 day.month day.left year },
+}
+
+impl Periods {
+    pub(crate) fn of(day: DayInMonth) -> Periods
+        ensures { result.day ≡ day }
+    {
+        Periods {
+            day,
+            month: period_day(Period::Month, day),
+            quarter: period_day(Period::Quarter, day),
+            year: period_day(Period::Year, day),
+        }
+    }
+
+    fn for_period(&self, period: Period) -> PeriodDay
+        ensures { PeriodOn (months_in period) self.now.day.month self.now.day.left result }
+    {
+        match period {
+            Period::Month => self.month,
+            Period::Quarter => self.quarter,
+            Period::Year => self.year,
+        }
+    }
+
+    // A class on the day, where `second_year` tells whether Y02 is tradable.
+    pub(crate) fn class(&self, second_year: bool, class: u32) -> ClassTerms
+        requires { class < 11 }
+        ensures { result ≡ class_by self.now.day.month self.now.day.left second_year class }
+    {
+        let class_row = row(class);
+        let count = class_row.period.months();
+        let here = self.for_period(class_row.period);
+        ClassTerms {
+            months: Months {
+                first: count * (here.own + class_row.place - 1),
+                count,
+            },
+            tradable: if class == Y02 {
+                second_year
+            } else {
+                class < D01
+            },
+            interval_class: if class == M01 && self.day.left <= 1 {
+                D01
+            } else {
+                class
+            },
+            parts: parts(class, here.turning),
+            successor: if here.turning {
+                class_row.earlier
+            } else {
+                Some(class)
+            },
+        }
     }
 }

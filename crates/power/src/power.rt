@@ -1,13 +1,27 @@
 // Power over a calendar.
-ghost use Rattle.std.specs.Prelude.{◌≡◌};
+ghost use Rattle.std.specs.Prelude.{◌≡◌, nat_lt};
+ghost use Rattle.dates.specs.Dates.{when};
+ghost use Rattle.power.specs.Monthly.{class_by};
 ghost use Rattle.power.specs.Power.{power};
 ghost use Rattle.power.specs.PowerLaws.{power-laws};
 
-use crate::class::class_at;
-use crate::classes::{CLASSES, D02};
+use crate::class::Periods;
+use crate::classes::{CLASSES, D02, M01};
 use crate::hours::Profile;
 use calendars::Calendar;
+use std::array;
 use terms::{ClassTerms, Terms};
+
+// A class on a day for which terms answer, and none past the last.
+fn class_in(periods: &Periods, second_year: bool, class: u32) -> Option<ClassTerms>
+    ensures { result ≡ when (nat_lt class 11) (class_by periods.now.day.month periods.now.day.left second_year class) }
+{
+    if class < CLASSES {
+        Some(periods.class(second_year, class))
+    } else {
+        None
+    }
+}
 
 // Power futures of a load profile over a calendar.
 #[derive(Drop)]
@@ -39,6 +53,15 @@ impl<C: Calendar, P: Profile> Terms for Power<C, P> {
 
     fn class_on(&self, day: u32, class: u32) -> Option<ClassTerms> {
         let day = terms::answered_day(&self.calendar, CLASSES, day, class)?;
-        Some(class_at(day, self.profile.trades_second_year(), class))
+        class_in(&Periods::of(day), self.profile.trades_second_year(), class)
+    }
+
+    fn classes_on(&self, day: u32) -> [Option<ClassTerms>; 12] {
+        let Some(here) = terms::answered_day(&self.calendar, CLASSES, day, M01) else {
+            return [None; 12];
+        };
+        let second_year = self.profile.trades_second_year();
+        let periods = Periods::of(here);
+        array::from_fn(|class| class_in(&periods, second_year, class as u32))
     }
 }

@@ -3,3 +3,4 @@ pub mod ClassQuantities
 pub mod Chains
 pub mod Listings
 pub mod Handovers
+pub mod Made

@@ -1,11 +1,13 @@
 // What terms are.
-ghost use Rattle.std.specs.Prelude.{◌≡◌, nat_lt};
+ghost use Rattle.std.specs.Prelude.{◌≡◌, map, nat_lt};
+ghost use Rattle.std.specs.List.{range_with_len};
 ghost use Rattle.dates.specs.Dates.{when};
 ghost use Rattle.terms.specs.Meaning.{Meaning};
 ghost use Rattle.terms.specs.Laws.{Laws};
 
 use crate::class_terms::ClassTerms;
 use calendars::DaySet;
+use std::array;
 
 // The classes of a product over a calendar, under the four laws of terms. Each call answers for every number, always
 // alike.
@@ -31,6 +33,13 @@ pub trait Terms {
     // A class on a day.
     fn class_on(&self, day: u32, class: u32) -> Option<ClassTerms>
         ensures { result ≡ (meaning self.now).on day class };
+
+    /// All classes on a day, by number; none past the last, and none on a day for which terms do not answer.
+    fn classes_on(&self, day: u32) -> [Option<ClassTerms>; 12]
+        ensures { result ≡ map ((meaning self.now).on day) (range_with_len 0 12) }
+    {
+        array::from_fn(|class| self.class_on(day, class as u32))
+    }
 
     ghost lawful: { (t : Self) → Laws (meaning t) };
 }
