@@ -1,5 +1,5 @@
 -- What is read off a table of a day. Assumes nothing.
-use Rattle.std.proofs.Common.{◌≡◌, ℕ, zero, suc, min, ◌<◌, ◌≤◌, Bool, cond, List, length, get_or, map, Some, None, Option, sym, ap, ◌∙◌, ⊎_elim, arith}
+use Rattle.std.proofs.Common.{◌≡◌, ℕ, zero, suc, min, ◌<◌, ◌≤◌, Bool, false, cond, List, length, get_or, map, Some, None, Option, sym, ap, ◌∙◌, ⊎_elim, arith}
 use Rattle.std.proofs.lemmas.List.FromFn.{get_or-map-range_with_len, fill_by_all}
 use Rattle.std.specs.List.{range_with_len}
 use Rattle.std.proofs.lemmas.Bool.{cases_eq, cases_lt, cond-false}
@@ -47,6 +47,9 @@ column w d ks f e = ap (λ (ks : List (Option ClassTerms)). map (λ c. f (class_
 module _ (w : Meaning) (law : Laws w) (d : ℕ) (ks : List (Option ClassTerms)) (f : ℕ → Option ClassTerms → Bool) (e : ks ≡ classes_of w d) where
   pub some-class : any_below w.classes (λ c. f c (class_at ks c)) ≡ any_below w.classes (λ c. f c (w.on d c))
   some-class = any_same w.classes (λ c. f c (class_at ks c)) (λ c. f c (w.on d c)) (λ c h. ap (f c) (class-at w d c ks e (omega (arith, law.twelve))))
+
+  pub some-flag : (ws : List Bool) → ws ≡ map (λ c. f c (w.on d c)) (range_with_len 0 12) → any_below w.classes (λ c. get_or ws c false) ≡ any_below w.classes (λ c. f c (w.on d c))
+  some-flag ws r = any_same w.classes (λ c. get_or ws c false) (λ c. f c (w.on d c)) (λ c h. ap (λ l. get_or l c false) r ∙ get_or-map-range_with_len (λ c. f c (w.on d c)) 0 12 c c false (omega (arith, law.twelve)) (omega arith))
 
   pub each-class : all_below w.classes (λ c. f c (class_at ks c)) ≡ all_below w.classes (λ c. f c (w.on d c))
   each-class = all_same w.classes (λ c. f c (class_at ks c)) (λ c. f c (w.on d c)) (λ c h. ap (f c) (class-at w d c ks e (omega (arith, law.twelve))))

@@ -19,17 +19,18 @@ fn table_with<T: Terms>(terms: &T, day: u32, table: Classes, quantity: [u32; 12]
 {
     let classes = terms.classes();
     let settling = terms.settling();
+    let whole = wholes(&table);
     DayTable {
         day,
         classes,
         settling,
         tradable: tradables(&table),
         quantity,
-        whole: wholes(&table),
-        some_parts: some_parts(&table, classes),
+        some_parts: some_parts(&whole, classes),
         all_stay: all_stay(&table, classes),
         taken_over: taken_over(&table, classes, settling),
         next: next_of(terms, day),
+        whole,
         table,
     }
 }

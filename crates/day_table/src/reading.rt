@@ -1,5 +1,5 @@
 // What each column of a table says, from the classes of the day.
-ghost use Rattle.std.specs.Prelude.{◌≡◌, ◌+◌, ◌<◌, ◌≤◌, map, not, ◌&&◌, ◌==◌, true};
+ghost use Rattle.std.specs.Prelude.{◌≡◌, ◌+◌, ◌<◌, ◌≤◌, map, not, ◌&&◌, ◌==◌, false, true, slice_index_or};
 ghost use Rattle.calendars.specs.Walks.{next_after};
 ghost use Rattle.day_table.specs.Table.{class_at, classes_of, quantities_of};
 ghost use Rattle.std.specs.List.{range_with_len};
@@ -29,12 +29,12 @@ fn has_parts(class: &Option<ClassTerms>) -> bool
     }
 }
 
-fn successor_of(class: &Option<ClassTerms>) -> Option<u32>
-    ensures { result ≡ successor class.now }
+pub(crate) fn successor_at(classes: &Classes, class: u32) -> Option<u32>
+    ensures { result ≡ successor (class_at classes.now class) }
 {
-    match class {
-        Some(class) => class.successor,
-        None => None,
+    match classes.get(class as usize) {
+        Some(Some(class)) => class.successor,
+        _ => None,
     }
 }
 
@@ -42,10 +42,7 @@ fn successor_of(class: &Option<ClassTerms>) -> Option<u32>
 fn hands_over(classes: &Classes, class: u32, to: u32) -> bool
     ensures { result ≡ names (successor (class_at classes.now class)) to }
 {
-    match classes.get(class as usize) {
-        Some(class) => successor_of(class) == Some(to),
-        None => false,
-    }
+    successor_at(classes, class) == Some(to)
 }
 
 pub(crate) fn tradables(classes: &Classes) -> [bool; 12]
@@ -60,20 +57,17 @@ pub(crate) fn wholes(classes: &Classes) -> [bool; 12]
     array::from_fn(|class| has_parts(&classes[class]))
 }
 
-fn has_parts_at(classes: &Classes, class: u32) -> bool
-    ensures { result ≡ has_some_part (class_at classes.now class) }
+fn is_whole(whole: &[bool; 12], class: u32) -> bool
+    ensures { result ≡ slice_index_or whole.now class false }
 {
-    match classes.get(class as usize) {
-        Some(class) => has_parts(class),
-        None => false,
-    }
+    whole.get(class as usize).copied().unwrap_or(false)
 }
 
 // Whether one of so many classes has parts.
-pub(crate) fn some_parts(classes: &Classes, count: u32) -> bool
-    ensures { result ≡ any_below count (λ c. has_some_part (class_at classes.now c)) }
+pub(crate) fn some_parts(whole: &[bool; 12], count: u32) -> bool
+    ensures { result ≡ any_below count (λ c. slice_index_or whole.now c false) }
 {
-    (0..count).any(|class| has_parts_at(classes, class))
+    (0..count).any(|class| is_whole(whole, class))
 }
 
 // Whether each of so many classes succeeds itself.

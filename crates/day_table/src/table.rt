@@ -5,6 +5,7 @@ ghost use Rattle.std.specs.List.{range_with_len};
 ghost use Rattle.terms.specs.Laws.{names};
 ghost use Rattle.terms.specs.Meaning.{successor};
 
+use crate::reading::successor_at;
 use terms::ClassTerms;
 
 /// What terms say of one day. A table is by class number; past the last class it says none, 0 and no.
@@ -74,22 +75,13 @@ impl DayTable {
         self.quantity.get(class as usize).copied().unwrap_or(0)
     }
 
-    fn successor_of(&self, class: u32) -> Option<u32>
-        ensures { result ≡ successor (class_in self.now class) }
-    {
-        match self.table.get(class as usize) {
-            Some(Some(class)) => class.successor,
-            _ => None,
-        }
-    }
-
     /// The class that each class succeeds.
     pub fn sources(&self) -> [Option<u32>; 12]
         ensures { result ≡ map (day_in self.now).source (range_with_len 0 12) }
     {
         let mut sources = [None; 12];
         for class in 0..self.classes.min(12) {
-            note_source(&mut sources, self.successor_of(class), class);
+            note_source(&mut sources, successor_at(&self.table, class), class);
         }
         sources
     }
