@@ -4,3 +4,5 @@ pub mod Chains
 pub mod Listings
 pub mod Handovers
 pub mod Made
+pub mod Ranges
+pub mod Sources

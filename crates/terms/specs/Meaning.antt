@@ -1,5 +1,5 @@
 -- What terms mean: the classes of each day. Assumes nothing.
-use Rattle.std.specs.Prelude.{ℕ, zero, suc, ◌+◌, Bool, false, cond, ◌&&◌, ◌||◌, Some, None, Option, nat_le, nat_lt, slice_index_or}
+use Rattle.std.specs.Prelude.{ℕ, zero, suc, ◌+◌, Bool, true, false, cond, ◌&&◌, ◌||◌, Some, None, Option, nat_le, nat_lt, slice_index_or}
 use Rattle.terms.specs.declared.class_terms.ClassTerms.{ClassTerms}
 use Rattle.terms.specs.declared.class_terms.Months.{Months}
 
@@ -26,6 +26,10 @@ sum_below (suc n) f = sum_below n f + f n
 abbrev pub any_below : ℕ → (ℕ → Bool) → Bool
 any_below zero f = false
 any_below (suc n) f = any_below n f || f n
+
+abbrev pub all_below : ℕ → (ℕ → Bool) → Bool
+all_below zero f = true
+all_below (suc n) f = all_below n f && f n
 
 -- 1 where a test passes, else 0: so a sum counts
 abbrev pub one : Bool → ℕ
