@@ -1,16 +1,13 @@
 -- Small words: the first question answered no, ranges, prices that may be missing, places of tables. Assumes nothing.
-use Rattle.std.specs.Prelude.{ℕ, zero, suc, Bool, true, false, cond, ◌&&◌, List, ℤ, pos, neg_ℤ, Some, None, Ok, Err, Option, Result, ◌+ℤ◌, ◌==◌, int_le, slice_index_or}
+use Rattle.std.specs.Prelude.{ℕ, Bool, true, false, cond, ◌&&◌, List, ℤ, pos, neg_ℤ, Some, None, Ok, Err, Option, Result, ◌+ℤ◌, ◌==◌, int_le, slice_index_or}
 use Rattle.amounts.specs.SumsOfWhole.{if_z}
 use Rattle.ledger.specs.declared.fault.Fault.{Fault}
+pub use Rattle.terms.specs.Meaning.{all_below}
 
 -- a question: where it is answered no its fault is the answer, else the questions go on
 abbrev pub ask : Bool → Fault → Option Fault → Option Fault
 ask true f rest = rest
 ask false f rest = Some f
-
-abbrev pub all_below : ℕ → (ℕ → Bool) → Bool
-all_below zero f = true
-all_below (suc n) f = all_below n f && f n
 
 abbrev pub within : ℤ → ℤ → ℤ → Bool
 within low high x = int_le low x && int_le x high
