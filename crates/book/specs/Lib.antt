@@ -1,3 +1,4 @@
 pub mod Markets
 pub mod Quotes
 pub mod Rows
+pub mod Tables
