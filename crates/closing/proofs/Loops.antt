@@ -1,5 +1,5 @@
--- Loops over the classes: tests, the class that is succeeded, sums, tables. Assumes nothing.
-use Rattle.std.proofs.Common.{◌≡◌, ℕ, zero, suc, ◌+◌, ◌*◌, ◌^◌, ◌<◌, ◌≤◌, Bool, true, false, MatchBool, MatchOption, ◌||◌, not, ◌&&◌, eqb, List, map, length, get_or, ℤ, ◌+ℤ◌, nat_abs, Some, None, Option, sym, refl, ap, ◌∙◌, subst, ⊎_elim, mul-le-mul_left, mul-add, zero-add, add-one, arith, SFits, to_z, of_z}
+-- Loops over the classes: tests, the class that is succeeded, sums; and of tables what terms have. Assumes nothing.
+use Rattle.std.proofs.Common.{◌≡◌, ℕ, zero, suc, ◌+◌, ◌*◌, ◌^◌, ◌<◌, ◌≤◌, Bool, true, false, MatchBool, MatchOption, ◌||◌, not, ◌&&◌, eqb, List, length, get_or, ℤ, ◌+ℤ◌, nat_abs, Some, None, Option, sym, refl, ap, ◌∙◌, subst, ⊎_elim, mul-le-mul_left, mul-add, zero-add, add-one, arith, SFits, to_z, of_z}
 use mir.Syntax.{Width, w128}
 use mir.Val.{hbits}
 use Rattle.amounts.proofs.Exact.{small-fits, added}
@@ -8,12 +8,11 @@ use Rattle.ledger.proofs.Tests.{all-not}
 use Rattle.ledger.specs.Calls.{source_below}
 use Rattle.ledger.specs.Words.{all_below}
 use Rattle.closing.specs.Closing.{successors_on}
-use Rattle.std.proofs.lemmas.List.FromFn.{fill_by_all, get_or-map-range_with_len, length-range_with_len, get_or-range_with_len}
+use Rattle.std.proofs.lemmas.List.FromFn.{get_or-map-range_with_len, length-range_with_len, get_or-range_with_len}
 use Rattle.std.proofs.lemmas.Int.{ints, to_z-of_z}
-use Rattle.std.proofs.lemmas.Bool.{cases_Bool, cases_eq, false≢true, cond-true, cond-false}
+use Rattle.std.proofs.lemmas.Bool.{cases_Bool, false≢true, cond-true, cond-false}
 use Rattle.terms.proofs.Handovers.{any_at}
-use Rattle.std.specs.Array.{IsFromFnResultFrom, IsFromFnResult}
-use Rattle.std.specs.Fn.{Mut, Called}
+pub use Rattle.terms.proofs.Made.{each-made, made-by}
 use Rattle.std.specs.List.{range_with_len, AllWithin, HoldsAt}
 use Rattle.terms.specs.Laws.{Laws, names}
 use Rattle.terms.specs.Meaning.{Meaning, any_below, successor}
@@ -117,23 +116,3 @@ module _ (x y : ℤ) (p : nat_abs x ≤ 2 ^ 98 * 12) (q : nat_abs y ≤ 2 ^ 96 *
 
   pub both_small : nat_abs (to_z w128 (of_z w128 (to_z w128 (of_z w128 x) +ℤ to_z w128 (of_z w128 y)))) ≤ 2 ^ 110
   both_small = rw both_is both-size
-
--- ---- tables
-
--- a table made by calls at each place, where each call has a property and changes nothing
-module _ {F B : Type 0} (g : Mut F (ℕ × Unit {0}) B) (f : F) (P : ℕ → B → Type 0) (call : (i : ℕ) (y : B) (q : F) → Called g f (i, tt) y q → P i y × (q ≡ f)) where
-  drawn : (ys : List B) (n i : ℕ) (p : F) → p ≡ f → IsFromFnResultFrom g p ys i n → (k : ℕ) (d : B) → i ≤ k → k < i + n → P k (get_or ys k d)
-  drawn ys zero i p e r k d l h = absurd (omega arith)
-  drawn ys (suc n) i p e r k d l h =
-      let one = call i r.1 r.0 (subst (λ (p : F). Called g p (i, tt) r.1 r.0) e r.3) in
-      ⊎_elim
-      (λ (s : k ≡ i). subst (λ k. P k (get_or ys k d)) (sym s) (subst (P i) (sym (r.2.1 d)) one.0))
-      (λ (s : k ≡ i → ⊥). drawn ys n (i + 1) r.0 one.1 r.4 k d (omega arith) (omega arith))
-      (cases_eq k i)
-
-  pub each-made : (ys : List B) (n : ℕ) → IsFromFnResult g f ys n → (k : ℕ) (d : B) → k < n → P k (get_or ys k d)
-  each-made ys n r k d h = drawn ys n 0 f refl r.each k d (omega arith) (omega arith)
-
--- each call gives what a function says
-pub made-by : {F B : Type 0} (g : Mut F (ℕ × Unit {0}) B) (f : F) (val : ℕ → B) → ((i : ℕ) (y : B) (q : F) → Called g f (i, tt) y q → (y ≡ val i) × (q ≡ f)) → (ys : List B) (n : ℕ) → B → IsFromFnResult g f ys n → ys ≡ map val (range_with_len 0 n)
-made-by g f val call ys n d r = fill_by_all val ys n d r.long (λ k h. each-made g f (λ i y. y ≡ val i) call ys n r k d h)
