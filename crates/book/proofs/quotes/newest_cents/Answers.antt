@@ -9,7 +9,7 @@ use Rattle.book.proofs.quotes.newest_cents.Goals as goal
 
 pub returns-clause-is : goal.returns-clause-is
 returns-clause-is c = λ d n k h.
-    each-made _ _ (λ i (y : ℤ). y ≡ or_zero (newest (day_in c.args.day.now) (market_of d n c.args.prices.now) i)) (λ i y q k. (search rules, search rules)) c.from_fn.result 12 c.from_fn.ensures.items k (pos 0) h
+    each-made _ _ (λ i (y : ℤ). y ≡ or_zero (newest (day_in c.args.day.now) (market_of 0 0 c.args.prices.now) i)) (λ i y q k. (search rules, search rules)) c.from_fn.result 12 c.from_fn.ensures.items k (pos 0) h
 
 pub returns-clause-small : goal.returns-clause-small
 returns-clause-small c =

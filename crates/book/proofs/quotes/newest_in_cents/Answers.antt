@@ -6,4 +6,4 @@ use Rattle.book.proofs.quotes.newest_in_cents.Goals as goal
 pub returns-clause-is : goal.returns-clause-is
 returns-clause-is c =
     let same : to_z w32 (of_z w32 c.or_zero.result) ≡ c.or_zero.result = omega (arith, ints) in
-    λ d n. same ∙ c.or_zero.ensures.is ∙ ap or_zero (c.newest.ensures d n)
+    same ∙ c.or_zero.ensures.is ∙ ap or_zero (c.newest.ensures 0 0)
