@@ -9,7 +9,7 @@ returns c =
     let x = c.args.self.now in
     let cash : to_z w64 (of_z w64 c.more_cash-self.result) ≡ x.cash +ℤ c.args.cents = omega (arith, ints) in
     λ i. record {
-      lots = λ k. read_set x.lots c.args.class k (pos 0) (pos 0) (omega (arith, c.told-self)) i;
+      lots = λ k. read_set x.lots c.args.class k (pos 0) (pos 0) (omega arith) i;
       traded = at x.traded;
       cost = at x.cost;
       cash = cash i;
