@@ -1,8 +1,6 @@
 use Rattle.std.proofs.Common.{arith, lit<, w64}
 use Rattle.std.proofs.lemmas.Int.{to_z-of_z}
 use Rattle.book.proofs.Loops.{sum_fits, sum-turn, sum-end}
-use Rattle.book.specs.Quotes.{quote_at, quote_pay}
-use Rattle.book.specs.Rows.{row_of}
 use Rattle.book.proofs.account.Account.variation.Goals as goal
 
 pub overflow_add-sum : goal.overflow_add-sum
@@ -13,9 +11,9 @@ overflow_add-sum c =
 pub loop-class-preserved : goal.loop-class-preserved
 loop-class-preserved c =
     let r = c.class_variation-sum in
-    sum-turn w64 (λ c'. quote_pay (quote_at c.args.quotes.now c') (row_of c.args.self.now) c') 178802682000000000 c.loop-class.class 12 (lit< tt) (omega arith) _ r.result _ c.loop-class.invariant (to_z-of_z w64 _ (record { sfits = r.type_inv })) r.ensures.is r.ensures.bound
+    sum-turn w64 _ 178802682000000000 c.loop-class.class 12 (lit< tt) (omega arith) _ r.result _ c.loop-class.invariant (to_z-of_z w64 _ (record { sfits = r.type_inv })) r.ensures.is r.ensures.bound
 
 pub returns : goal.returns
 returns c =
-    let s = sum-end (λ c'. quote_pay (quote_at c.args.quotes.now c') (row_of c.args.self.now) c') 178802682000000000 c.loop-class.class c.args.classes 12 _ (omega arith) c.requires.0 c.loop-class.invariant in
+    let s = sum-end _ 178802682000000000 c.loop-class.class c.args.classes 12 _ (omega arith) c.requires.0 c.loop-class.invariant in
     record { is = s.is; bound = s.bound }
