@@ -1,11 +1,15 @@
 -- The rows of an account, place by place. Assumes nothing.
-use Rattle.std.proofs.Common.{◌≡◌, ℕ, ◌<◌, ◌≤◌, ◌==◌, true, cond, eqb, List, length, get_or, set, ℤ, pos, ◌+ℤ◌, nat_abs, sym, ap, ◌∙◌, subst, ⊎_elim, arith}
-use Rattle.amounts.proofs.Sums.{hit, miss}
-use Rattle.amounts.specs.SumsOfWhole.{if_z}
+use Rattle.std.proofs.Common.{◌≡◌, ℕ, ◌<◌, ◌≤◌, ◌==◌, true, false, cond, eqb, List, length, get_or, set, ℤ, pos, ◌+ℤ◌, nat_abs, sym, ap, ◌∙◌, subst, ⊎_elim, arith}
+use Rattle.amounts.proofs.Sums.{hit, miss, sum-nil}
+use Rattle.amounts.specs.SumsOfWhole.{sum_z, if_z}
+use Rattle.book.specs.Rows.{Flagged}
+use Rattle.day_table.specs.Table.{day_in}
+use Rattle.day_table.specs.declared.table.DayTable.{DayTable}
 use Rattle.ledger.proofs.Tests.{put-here, put-there}
-use Rattle.ledger.specs.Calls.{lots_fit}
+use Rattle.ledger.specs.Calls.{lots_fit, after_parts}
+use Rattle.ledger.specs.State.{Row}
 use Rattle.ledger.specs.Words.{at, put}
-use Rattle.std.proofs.lemmas.Bool.{cases_eq}
+use Rattle.std.proofs.lemmas.Bool.{cases_eq, cond-false}
 use Rattle.std.proofs.lemmas.Int.{ints}
 use Rattle.std.proofs.lemmas.List.{get_or-set_same, get_or-set_other}
 
@@ -27,3 +31,9 @@ more-small m xs ys c x y same more room small k =
 
 pub fit-small : (x : ℤ) → lots_fit x ≡ true → nat_abs x ≤ 1000
 fit-small x e = grind (arith, ints)
+
+-- on a day on which no class has parts the lots stay where they are
+pub no-parts : (t : DayTable) (r : Row) (c : ℕ) → Flagged t → t.some_parts ≡ false → after_parts (day_in t) r c ≡ r.lots c
+no-parts t r c flagged none =
+    let given = sum-nil t.classes (λ e. if_z ((day_in t).part e c) (r.lots e)) (λ e h. cond-false ((day_in t).part e c) (r.lots e) (pos 0) (flagged none e c).1) in
+    cond-false ((day_in t).whole c) (pos 0) _ (flagged none c c).0 ∙ omega (arith, ints, given)
