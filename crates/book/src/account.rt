@@ -93,8 +93,19 @@ impl Account {
         ensures is { result ≡ quote_pay (quote_at quotes.now class) (row_of self.now) class }
         ensures bound { unsigned_abs result ≤ 178802682000000000 }
     {
-        let Quote { quantity, today, last } = quotes[class];
-        variation(quantity, today, self.lots[class], last, self.traded[class], self.cost[class])
+        let Quote {
+            quantity,
+            today,
+            last,
+        } = quotes[class];
+        variation(
+            quantity,
+            today,
+            self.lots[class],
+            last,
+            self.traded[class],
+            self.cost[class],
+        )
     }
 
     /// The variation margin of so many classes together.
@@ -118,7 +129,12 @@ impl Account {
         ensures bound { unsigned_abs result ≤ 1788000000000 }
     {
         if day.is_part(class, part) {
-            price_move(day.quantity[part], self.lots[class], newest[part], newest[class])
+            price_move(
+                day.quantity[part],
+                self.lots[class],
+                newest[part],
+                newest[class],
+            )
         } else {
             0
         }

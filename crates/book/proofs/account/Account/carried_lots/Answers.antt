@@ -1,9 +1,9 @@
-use Rattle.std.proofs.Common.{◌≡◌, ◌≤◌, ◌<◌, ℕ, ℤ, pos, None, get_or, length, nat_abs, sym, ap, ◌∙◌, subst, arith, lit<, rules}
+use Rattle.std.proofs.Common.{◌≡◌, ◌≤◌, ℤ, pos, None, get_or, nat_abs, sym, ap, arith, lit<, rules}
 use Rattle.std.proofs.lemmas.List.{get_or_past}
 use Rattle.book.proofs.Loops.{made-each, serves-index}
 use Rattle.book.specs.Rows.{row_of}
 use Rattle.day_table.specs.Table.{day_in}
-use Rattle.ledger.specs.Calls.{lots_fit, after_parts}
+use Rattle.ledger.specs.Calls.{after_parts}
 use Rattle.ledger.specs.Words.{from}
 use Rattle.book.proofs.account.Account.carried_lots.Goals as goal
 
