@@ -1,2 +1,3 @@
+pub mod Days
 pub mod Loops
 pub mod Accounts

@@ -1,5 +1,5 @@
 -- Accounts as rows. Assumes nothing.
-use Rattle.std.specs.Prelude.{◌≡◌, ℕ, ◌<◌, ◌≤◌, false, List, map, ℤ, pos, ◌+ℤ◌, ◌*ℤ◌, Some, None, Option, slice_index_or, unsigned_abs}
+use Rattle.std.specs.Prelude.{◌≡◌, ℕ, ◌<◌, ◌≤◌, false, List, map, length, ℤ, pos, ◌+ℤ◌, ◌*ℤ◌, Some, None, Option, slice_index_or, unsigned_abs}
 use Rattle.amounts.specs.Amounts.{part_payment}
 use Rattle.amounts.specs.SumsOfWhole.{sum_z, if_z}
 use Rattle.book.specs.declared.account.Account.{Account}
@@ -60,3 +60,7 @@ SmallCents xs = (c : ℕ) → unsigned_abs (at xs c) ≤ 100000
 -- each class that is succeeded is one of so many
 abbrev pub Known : ℕ → List (Option ℕ) → Type 0
 Known n sources = (t c : ℕ) → slice_index_or sources t None ≡ Some c → c < n
+
+-- payments that leave the cash of each account in range
+abbrev pub CashFits : List Account → List ℤ → Type 0
+CashFits xs pays = (a : ℕ) → a < length xs → unsigned_abs ((rows_of xs a).cash +ℤ at pays a) ≤ 9000000000000000000

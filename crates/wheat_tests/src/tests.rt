@@ -56,6 +56,30 @@ fn moves_up_after_12_may_2008(rt: HostRuntime) {
     );
 }
 
+// All six classes on 12 May 2008, from May 2008 to May 2009 and the March before; none on the Saturday before.
+#[test]
+fn all_classes_of_a_day(rt: HostRuntime) {
+    let told = WHEAT.classes_on(3054);
+    assert_eq!(rt;
+        told.map(|class| Some(class?.months.first)),
+        [
+            Some(100),
+            Some(104),
+            Some(107),
+            Some(110),
+            Some(112),
+            Some(98),
+            None,
+            None,
+            None,
+            None,
+            None,
+            None,
+        ]
+    );
+    assert_eq!(rt; WHEAT.classes_on(3052), [None; 12]);
+}
+
 // The last trading days of March, September and December 2008, and the days after: T01, T05 and DEL.
 #[test]
 fn moves_up_at_each_expiry(rt: HostRuntime) {

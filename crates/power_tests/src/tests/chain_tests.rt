@@ -204,5 +204,8 @@ fn all_classes(rt: HostRuntime) {
             firsts.map(Some)
         );
         assert_eq!(rt; told.map(|class| class?.successor), successors);
+        let whole = POWER.classes_on(day);
+        assert_eq!(rt; &whole[..11], &told[..]);
+        assert_eq!(rt; whole[11], None);
     }
 }
