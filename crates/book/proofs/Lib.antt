@@ -1,3 +1,5 @@
 pub mod Days
 pub mod Markets
 pub mod Afters
+pub mod Loops
+pub mod Accounts
