@@ -3,3 +3,5 @@ pub mod Markets
 pub mod Afters
 pub mod Loops
 pub mod Accounts
+pub mod Lives
+pub mod ClassLines
