@@ -1,1 +1,5 @@
 pub mod Loops
+pub mod Places
+pub mod AccountRows
+pub mod Passes
+pub mod Sides
