@@ -7,6 +7,9 @@ use Rattle.amounts.specs.SumsOfWhole.{sum_z}
 use Rattle.std.proofs.lemmas.Bool.{cases_lt}
 use Rattle.std.proofs.lemmas.Int.{ints, to_z-of_z}
 use Rattle.std.proofs.lemmas.List.{get_or_past}
+use Rattle.std.specs.Array.{IsFromFnResult}
+use Rattle.std.specs.Fn.{Mut, Called}
+use Rattle.terms.proofs.Made.{each-made}
 
 -- ---- a sum of at most `top` numbers, each of size at most m; y is what the code has for the next number x
 
@@ -48,3 +51,7 @@ each-place P xs n d long past here k =
     (λ (l : k < n). here k l)
     (λ (l : n ≤ k). subst (P k) (sym (get_or_past xs k d (omega arith))) (past k l))
     (cases_lt k n)
+
+-- the same of a table made by calls at each place, each of which has a property and changes nothing
+pub made-each : {F B : Type 0} (g : Mut F (ℕ × Unit {0}) B) (f : F) (P : ℕ → B → Type 0) → ((i : ℕ) (y : B) (q : F) → Called g f (i, tt) y q → P i y × (q ≡ f)) → (ys : List B) (n : ℕ) (d : B) → IsFromFnResult g f ys n → ((k : ℕ) → n ≤ k → P k d) → (k : ℕ) → P k (get_or ys k d)
+made-each g f P call ys n d r past = each-place P ys n d r.long past (λ k h. each-made g f P call ys n r k d h)

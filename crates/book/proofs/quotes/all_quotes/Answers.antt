@@ -1,5 +1,5 @@
 use Rattle.std.proofs.Common.{◌≡◌, ℕ, pos, rules, arith}
-use Rattle.book.proofs.Loops.{each-place}
+use Rattle.book.proofs.Loops.{made-each}
 use Rattle.book.specs.Markets.{market_of}
 use Rattle.book.specs.Quotes.{quote_on, SmallQuote}
 use Rattle.book.specs.declared.quotes.Quote.{Quote}
@@ -13,7 +13,5 @@ returns-clause-is c = λ d n k h.
 
 pub returns-clause-small : goal.returns-clause-small
 returns-clause-small c =
-    let Small : ℕ → Quote → Type 0 = λ i y. SmallQuote y in
-    let d : Quote = record { quantity = 0; today = pos 0; last = pos 0 } in
-    each-place Small c.from_fn.result 12 d c.from_fn.ensures.items.long (λ k l. record { quantity = omega arith; today = omega arith; last = omega arith })
-    (λ k h. each-made _ _ Small (λ i y q k. (search rules, search rules)) c.from_fn.result 12 c.from_fn.ensures.items k d h)
+    made-each _ _ (λ i (y : Quote). SmallQuote y) (λ i y q k. (search rules, search rules)) c.from_fn.result 12 (record { quantity = 0; today = pos 0; last = pos 0 }) c.from_fn.ensures.items
+    (λ k l. record { quantity = omega arith; today = omega arith; last = omega arith })

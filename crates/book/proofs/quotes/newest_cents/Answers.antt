@@ -1,5 +1,5 @@
 use Rattle.std.proofs.Common.{◌≡◌, ℕ, ◌≤◌, ℤ, pos, nat_abs, rules, arith}
-use Rattle.book.proofs.Loops.{each-place}
+use Rattle.book.proofs.Loops.{made-each}
 use Rattle.book.specs.Markets.{market_of}
 use Rattle.day_table.specs.Table.{day_in}
 use Rattle.ledger.specs.Calls.{newest}
@@ -13,6 +13,4 @@ returns-clause-is c = λ d n k h.
 
 pub returns-clause-small : goal.returns-clause-small
 returns-clause-small c =
-    let Small : ℕ → ℤ → Type 0 = λ i y. nat_abs y ≤ 100000 in
-    each-place Small c.from_fn.result 12 (pos 0) c.from_fn.ensures.items.long (λ k l. omega arith)
-    (λ k h. each-made _ _ Small (λ i y q k. (search rules, search rules)) c.from_fn.result 12 c.from_fn.ensures.items k (pos 0) h)
+    made-each _ _ (λ i (y : ℤ). nat_abs y ≤ 100000) (λ i y q k. (search rules, search rules)) c.from_fn.result 12 (pos 0) c.from_fn.ensures.items (λ k l. omega arith)
