@@ -1,4 +1,4 @@
--- The rows of accounts in a list: one account set, one read, one more, all tested. Assumes nothing.
+-- The rows of accounts in a list: one account set, one read, all tested. Assumes nothing.
 use Rattle.std.proofs.Common.{◌≡◌, ℕ, zero, suc, ◌<◌, Bool, true, false, MatchBool, cond, eqb, List, [], ◌∷◌, ◌++◌, map, length, get_or, set, sym, ap, refl, ◌∙◌, subst, arith}
 use Rattle.std.proofs.lemmas.List.{map-set, length-map, get_or-map}
 use Rattle.std.specs.List.{AllWithin, HoldsAt}
@@ -19,13 +19,6 @@ rows-at xs i d h = get_or-map row_of xs i d nil_row h
 pub row-here : (P : Row → Type 0) (xs : List Account) (i : ℕ) → i < length xs → ((d : Account) → P (row_of (get_or xs i d))) → P (rows_of xs i)
 row-here P [] i h p = absurd (omega arith)
 row-here P (x ∷ xs) i h p = subst P (sym (rows-at (x ∷ xs) i x h)) (p x)
-
--- one account more that holds nothing
-pub nil-more : (xs : List Account) (x : Account) → row_of x ≡ nil_row → ((a : ℕ) → rows_of xs a ≡ nil_row) → (a : ℕ) → rows_of (xs ++ x ∷ []) a ≡ nil_row
-nil-more [] x e all zero = e
-nil-more [] x e all (suc a) = refl
-nil-more (y ∷ xs) x e all zero = all 0
-nil-more (y ∷ xs) x e all (suc a) = nil-more xs x e (λ k. all (suc k)) a
 
 -- what `all` answers over the accounts, by their rows
 pub all-rows : (f : Row → Bool) (xs : List Account) (r : Bool) → MatchBool r (AllWithin (λ x. f (row_of x) ≡ true) xs 0 (length xs)) ((i : ℕ) × (i < length xs) × HoldsAt (λ x. f (row_of x) ≡ false) xs i) → r ≡ all_below (length xs) (λ a. f (rows_of xs a))
