@@ -5,3 +5,7 @@ pub mod Loops
 pub mod Accounts
 pub mod Lives
 pub mod ClassLines
+pub mod Places
+pub mod AccountRows
+pub mod Passes
+pub mod Sides

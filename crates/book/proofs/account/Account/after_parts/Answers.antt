@@ -1,6 +1,6 @@
 use Rattle.std.proofs.Common.{◌≡◌, pos, sym, ◌∙◌, get_or, arith, to_z, of_z, w32}
 use Rattle.std.proofs.lemmas.Int.{ints}
-use Rattle.book.proofs.Accounts.{no-parts}
+use Rattle.book.proofs.Places.{no-parts}
 use Rattle.book.specs.Rows.{row_of}
 use Rattle.book.proofs.account.Account.after_parts.Goals as goal
 

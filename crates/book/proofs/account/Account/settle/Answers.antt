@@ -1,7 +1,7 @@
 use Rattle.std.proofs.Common.{◌≡◌, pos, ◌+ℤ◌, arith, to_z, of_z, w64}
 use Rattle.std.proofs.lemmas.Int.{ints}
 use Rattle.ledger.specs.Words.{at}
-use Rattle.book.proofs.Accounts.{read_set}
+use Rattle.book.proofs.Places.{read_set}
 use Rattle.book.proofs.account.Account.settle.Goals as goal
 
 pub returns : goal.returns

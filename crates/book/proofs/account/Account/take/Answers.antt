@@ -2,7 +2,7 @@ use Rattle.std.proofs.Common.{◌≡◌, ◌==◌, ◌+ℤ◌, ◌*ℤ◌, ap, �
 use Rattle.std.proofs.lemmas.Int.{ints}
 use Rattle.amounts.specs.SumsOfWhole.{if_z}
 use Rattle.ledger.specs.Words.{at}
-use Rattle.book.proofs.Accounts.{more-small}
+use Rattle.book.proofs.Places.{more-small}
 use Rattle.book.proofs.account.Account.take.Goals as goal
 
 pub invariant_of-self : goal.invariant_of-self
