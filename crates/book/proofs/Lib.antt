@@ -9,3 +9,4 @@ pub mod Places
 pub mod AccountRows
 pub mod Passes
 pub mod Sides
+pub mod Trades
