@@ -1,3 +1,4 @@
+pub mod Days
 pub mod Loops
 pub mod Places
 pub mod AccountRows

@@ -1,5 +1,5 @@
 -- Sums over classes, and tables made class by class. Assumes nothing.
-use Rattle.std.proofs.Common.{◌≡◌, ℕ, ◌+◌, ◌*◌, ◌^◌, ◌<◌, ◌≤◌, List, length, get_or, ℤ, ◌+ℤ◌, nat_abs, sym, subst, ⊎_elim, ◌∙◌, mul-le-mul_left, mul-add, add-one, arith, SFits, to_z, of_z}
+use Rattle.std.proofs.Common.{◌≡◌, ℕ, ◌+◌, ◌*◌, ◌^◌, ◌<◌, ◌≤◌, List, [], ◌∷◌, length, get_or, ℤ, ◌+ℤ◌, nat_abs, sym, refl, subst, ⊎_elim, ◌∙◌, mul-le-mul_left, mul-add, add-one, arith, SFits, to_z, of_z}
 use mir.Syntax.{Width}
 use mir.Val.{hbits}
 use Rattle.amounts.proofs.Exact.{small-fits}
@@ -7,8 +7,10 @@ use Rattle.amounts.specs.SumsOfWhole.{sum_z}
 use Rattle.std.proofs.lemmas.Bool.{cases_lt}
 use Rattle.std.proofs.lemmas.Int.{ints, to_z-of_z}
 use Rattle.std.proofs.lemmas.List.{get_or_past}
-use Rattle.std.specs.Array.{IsFromFnResult}
+use Rattle.std.specs.Array.{IsFromFnResult, index_steps}
 use Rattle.std.specs.Fn.{Mut, Called}
+use Rattle.std.specs.List.{FoldsTo}
+use Rattle.std.specs.Iterator.{CallableAtEachTurn}
 use Rattle.terms.proofs.Made.{each-made}
 
 -- ---- a sum of at most `top` numbers, each of size at most m; y is what the code has for the next number x
@@ -55,3 +57,11 @@ each-place P xs n d long past here k =
 -- the same of a table made by calls at each place, each of which has a property and changes nothing
 pub made-each : {F B : Type 0} (g : Mut F (ℕ × Unit {0}) B) (f : F) (P : ℕ → B → Type 0) → ((i : ℕ) (y : B) (q : F) → Called g f (i, tt) y q → P i y × (q ≡ f)) → (ys : List B) (n : ℕ) (d : B) → IsFromFnResult g f ys n → ((k : ℕ) → n ≤ k → P k d) → (k : ℕ) → P k (get_or ys k d)
 made-each g f P call ys n d r past = each-place P ys n d r.long past (λ k h. each-made g f P call ys n r k d h)
+
+-- what is asked at each place of a table, where a call changes nothing
+still : {P : Type 0} (R : P → ℕ → P → Type 0) (p : P) → ((x : ℕ) (q : P) → R p x q → q ≡ p) → (xs : List ℕ) (k q : P) → k ≡ p → FoldsTo R k xs q → q ≡ p
+still R p stays [] k q e r = sym r ∙ e
+still R p stays (x ∷ xs) k q e r = still R p stays xs r.0 q (stays x r.0 (subst (λ k. R k x r.0) e r.1)) r.2
+
+pub serves-index : {P : Type 0} {R : P → ℕ → P → Type 0} {Q : P → ℕ → Type 0} {n : ℕ} {p : P} → ((x : ℕ) (q : P) → R p x q → q ≡ p) → ((x : ℕ) → x < n → Q p x) → CallableAtEachTurn (index_steps n) R Q 0 p
+serves-index {P} {R} {Q} {n} {p} stays h = record { at = λ xs t q x u y r e. subst (λ k. Q k x) (sym (still R p stays xs p q refl r)) (h x (omega (arith, e))) }

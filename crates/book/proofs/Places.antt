@@ -1,7 +1,7 @@
 -- The rows of an account, place by place. Assumes nothing.
-use Rattle.std.proofs.Common.{◌≡◌, ℕ, ◌<◌, ◌≤◌, ◌==◌, true, false, cond, eqb, List, length, get_or, set, ℤ, pos, ◌+ℤ◌, nat_abs, sym, ap, ◌∙◌, subst, ⊎_elim, arith}
+use Rattle.std.proofs.Common.{◌≡◌, ℕ, ◌<◌, ◌≤◌, ◌==◌, true, false, List, length, get_or, set, ℤ, pos, ◌+ℤ◌, nat_abs, sym, ◌∙◌, subst, ⊎_elim, arith}
 use Rattle.amounts.proofs.Sums.{hit, miss, sum-nil}
-use Rattle.amounts.specs.SumsOfWhole.{sum_z, if_z}
+use Rattle.amounts.specs.SumsOfWhole.{if_z}
 use Rattle.book.specs.Rows.{Flagged}
 use Rattle.day_table.specs.Table.{day_in}
 use Rattle.day_table.specs.declared.table.DayTable.{DayTable}

@@ -3,7 +3,20 @@
 mod account;
 mod accounts;
 mod arithmetic;
+mod book;
+mod close;
+mod history;
+mod make;
+mod margins;
+mod mark;
 mod prices;
 mod quotes;
+mod reads;
 mod rows;
+mod settle;
+mod store;
 mod tables;
+mod trade;
+
+pub use book::Book;
+pub use make::NotMade;

@@ -10,6 +10,7 @@ use Rattle.terms.specs.Laws.{names}
 use Rattle.terms.specs.Day.{source_below}
 use Rattle.ledger.specs.Words.{from}
 use Rattle.ledger.proofs.Tests.{some-none, names-true, names-yes}
+pub use Rattle.terms.proofs.Sources.{source_is, source-here, source-none}
 
 -- a weight for each class, additive in the lots
 pub record Additive (G : ℕ → ℤ → ℤ) : Type 0 where
@@ -87,42 +88,6 @@ module _ (n : ℕ) (part : ℕ → ℕ → Bool) (whole : ℕ → Bool) (G : ℕ
       ∙ ap (λ v. sum_z n (λ c. G c (l c)) +ℤ v) (sym (sum-sub n (λ c. sum_z n (λ p. if_z (part c p) (G p (l c)))) (λ c. if_z (whole c) (G c (l c)))))
 
 -- ---- successors
-
-module _ (next : ℕ → Option ℕ) (t : ℕ) where
-  pub source_is : (n c : ℕ) → source_below next t n ≡ Some c → (c < n) × (next c ≡ Some t)
-  source_is zero c e = absurd (some-none (Some c) c refl (sym e))
-  source_is (suc n) c e =
-      ⊎_elim
-      (λ (q : names (next n) t ≡ true).
-      let f : Some n ≡ Some c = sym (cond-true (names (next n) t) (Some n) (source_below next t n) q) ∙ e in
-      let g : n ≡ c = cc f in
-      (omega arith, subst (λ k. next k ≡ Some t) g (names-true _ t q)))
-      (λ (q : names (next n) t ≡ false).
-      let r = source_is n c (sym (cond-false (names (next n) t) (Some n) (source_below next t n) q) ∙ e) in
-      (omega (arith, r.0), r.1))
-      (cases_Bool (names (next n) t))
-
-  pub source-here : (n c : ℕ) → c < n → ((e : ℕ) → next e ≡ Some t → c ≡ e) → next c ≡ Some t → source_below next t n ≡ Some c
-  source-here zero c h one e = absurd (omega arith)
-  source-here (suc n) c h one e =
-      ⊎_elim
-      (λ (q : names (next n) t ≡ true). cond-true (names (next n) t) (Some n) (source_below next t n) q ∙ ap Some (sym (one n (names-true _ t q))))
-      (λ (q : names (next n) t ≡ false).
-      let ne : c ≡ n → ⊥ = λ (z : c ≡ n). false≢true (sym q ∙ names-yes (next n) t (subst (λ k. next k ≡ Some t) z e)) in
-      cond-false (names (next n) t) (Some n) (source_below next t n) q ∙ source-here n c (omega arith) one e)
-      (cases_Bool (names (next n) t))
-
-  pub source-none : (n : ℕ) → source_below next t n ≡ None → (c : ℕ) → c < n → next c ≡ Some t → ⊥
-  source-none zero e c h y = omega arith
-  source-none (suc n) e c h y =
-      ⊎_elim
-      (λ (q : names (next n) t ≡ true). some-none (Some n) n refl (sym (cond-true (names (next n) t) (Some n) (source_below next t n) q) ∙ e))
-      (λ (q : names (next n) t ≡ false).
-      ⊎_elim
-      (λ (z : c ≡ n). false≢true (sym q ∙ names-yes (next n) t (subst (λ k. next k ≡ Some t) z y)))
-      (λ (z : c ≡ n → ⊥). source-none n (sym (cond-false (names (next n) t) (Some n) (source_below next t n) q) ∙ e) c (omega arith) y)
-      (cases_eq c n))
-      (cases_Bool (names (next n) t))
 
 module _ (n : ℕ) (next : ℕ → Option ℕ) (apart : (c e s : ℕ) → next c ≡ Some s → next e ≡ Some s → c ≡ e) where
   -- what comes to a class is what the class that it succeeds held

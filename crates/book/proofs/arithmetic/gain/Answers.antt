@@ -1,5 +1,5 @@
-use Rattle.std.proofs.Common.{◌≡◌, ℤ, ◌-ℤ◌, ◌*ℤ◌, ap, ◌∙◌, arith, to_z, of_z, w32, w64}
-use Rattle.std.proofs.lemmas.Int.{ints, to_z-of_z}
+use Rattle.std.proofs.Common.{◌≡◌, ◌-ℤ◌, ◌*ℤ◌, ◌∙◌, arith, to_z, of_z, w32, w64}
+use Rattle.std.proofs.lemmas.Int.{ints}
 use Rattle.amounts.proofs.Ring.{product_le}
 use Rattle.book.proofs.arithmetic.gain.Goals as goal
 

@@ -1,4 +1,4 @@
-use Rattle.std.proofs.Common.{◌≡◌, ℕ, pos, rules, arith}
+use Rattle.std.proofs.Common.{◌≡◌, pos, rules, arith}
 use Rattle.book.proofs.Loops.{made-each}
 use Rattle.book.specs.Markets.{market_of}
 use Rattle.book.specs.Quotes.{quote_on, SmallQuote}

@@ -1,4 +1,4 @@
-use Rattle.std.proofs.Common.{◌≡◌, ℕ, ◌≤◌, ℤ, pos, nat_abs, rules, arith}
+use Rattle.std.proofs.Common.{◌≡◌, ◌≤◌, ℤ, pos, nat_abs, rules, arith}
 use Rattle.book.proofs.Loops.{made-each}
 use Rattle.book.specs.Markets.{market_of}
 use Rattle.day_table.specs.Table.{day_in}

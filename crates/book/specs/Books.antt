@@ -1,0 +1,39 @@
+-- What a book holds, and what a call makes of it. Assumes nothing.
+use Rattle.std.specs.Prelude.{List, Option}
+use Rattle.book.specs.Stores.{terms_in, state_in}
+use Rattle.book.specs.declared.book.Book.{Book}
+use Rattle.ledger.specs.Calls.{refusal, after}
+use Rattle.ledger.specs.Ledger.{LivesOn}
+use Rattle.ledger.specs.Questions.{list_after}
+use Rattle.ledger.specs.State.{State}
+use Rattle.ledger.specs.declared.call.Call.{Call}
+use Rattle.ledger.specs.declared.fault.Fault.{Fault}
+use Rattle.ledger.specs.declared.payment.Payment.{Payment}
+use Rattle.terms.specs.Meaning.{Meaning}
+use Rattle.terms.specs.declared.terms.Terms.{Ghosts}
+
+module _ {T : Type 0} {g : Ghosts T} where
+  -- the terms that a book was made over, and what they mean
+  abbrev pub terms_of : Book T g → T
+  terms_of b = terms_in b.store
+
+  abbrev pub meaning_of : Book T g → Meaning
+  meaning_of b = g.meaning (terms_of b)
+
+  -- what it holds
+  abbrev pub book_of : Book T g → State
+  book_of b = state_in b.store
+
+  -- the question of a call that is answered no, if one is; what the book holds afterwards; a payment list afterwards
+  abbrev pub refused : Book T g → Call → Option Fault
+  refused b call = refusal (meaning_of b) (book_of b) call
+
+  abbrev pub left : Book T g → Call → State
+  left b call = after (meaning_of b) (book_of b) call
+
+  abbrev pub listed : Book T g → Call → List Payment → List Payment
+  listed b call list = list_after (meaning_of b) (book_of b) call list
+
+  -- whatever history a book has had, a call adds itself and its answer to it
+  abbrev pub GoesOn : Book T g → Call → Book T g → Type 0
+  GoesOn b call c = LivesOn (meaning_of b) (book_of b) call (book_of c)

@@ -1,0 +1,183 @@
+// Close: the end of a day.
+ghost use Rattle.std.specs.Prelude.{◌≡◌, ℕ, ◌<◌, ◌≤◌, true, length, map, None, Some, Ok, cond, ◌&&◌, not, is_some, unsigned_abs, slice_index_or};
+ghost use Rattle.book.specs.Books.{book_of, terms_of, refused, left, listed, GoesOn};
+ghost use Rattle.book.specs.Closes.{may_close};
+ghost use Rattle.book.specs.Markets.{cents_in, market_of};
+ghost use Rattle.book.specs.Rows.{rows_of, CashFits};
+ghost use Rattle.book.specs.Stores.{meaning_in, state_in, terms_in, Ready};
+ghost use Rattle.day_table.specs.Table.{day_in, table_of};
+ghost use Rattle.ledger.specs.Calls.{refusal, done, after, all_rows, lots_fit, after_parts, newest, by_end, close_pay, today};
+ghost use Rattle.ledger.specs.Questions.{list_after, written};
+ghost use Rattle.ledger.specs.Words.{all_below, from, reply, at};
+ghost use Rattle.ledger.specs.declared.call.Call.TheVariants.{Close};
+
+use crate::accounts::{
+    all_keep_limit, carry_all, close_all, may_pay, pays_with_parts, variation_pays, write_lines,
+};
+use crate::book::Book;
+use crate::prices::{Price, Prices, UNPRICED};
+use crate::quotes::{all_quotes, newest, newest_cents};
+use crate::store::Store;
+use day_table::DayTable;
+use ledger::{Fault, Payment};
+use std::array;
+use terms::{END, Terms};
+
+// Whether there is a next open day by the end of 2096.
+fn is_by_end(next: Option<u32>) -> bool
+    ensures { result ≡ by_end next }
+{
+    next.is_some_and(|day| day < END)
+}
+
+// Whether a class has a price today, if it is tradable.
+fn is_priced(day: &DayTable, prices: &[Prices; 12], class: usize) -> bool
+    requires { class < 12 }
+    ensures { (d n : ℕ) → result ≡ cond ((day_in day.now).tradable class) (is_some ((market_of d n prices.now).today class)) true }
+{
+    !day.tradable[class] || prices[class].today.is_some()
+}
+
+// The prices of a class that succeeds another one, on the next day.
+fn carried_prices(day: &DayTable, next: &DayTable, prices: &[Prices; 12], source: Option<u32>, class: usize) -> Prices
+    requires class { class < 12 }
+    requires source { (c : ℕ) → source ≡ Some c → c < 12 }
+    ensures last { (d n : ℕ) → cents_in result.last ≡ from source None (newest (day_in day.now) (market_of d n prices.now)) }
+    ensures today { result.today ≡ None }
+    ensures repriced { (d n : ℕ) → cents_in result.repriced ≡ cond ((day_in next.now).tradable class) None (from source None (market_of d n prices.now).repriced) }
+{
+    let Some(source) = source else {
+        return UNPRICED;
+    };
+    let repriced = if next.tradable[class] {
+        None
+    } else {
+        prices[source as usize].repriced
+    };
+    Prices {
+        last: newest(day, prices, source as usize),
+        today: None,
+        repriced,
+    }
+}
+
+// The prices of all classes on the next day, where each class succeeds one of the sources.
+fn all_carried_prices(day: &DayTable, next: &DayTable, prices: &[Prices; 12], sources: &[Option<u32>; 12]) -> [Prices; 12]
+    requires { (t c : ℕ) → slice_index_or sources.now t None ≡ Some c → c < 12 }
+    ensures last { (d n t : ℕ) → (market_of d n result).last t ≡ from (slice_index_or sources.now t None) None (newest (day_in day.now) (market_of d n prices.now)) }
+    ensures today { (d n t : ℕ) → (market_of d n result).today t ≡ None }
+    ensures repriced { (d n t : ℕ) → (market_of d n result).repriced t ≡ cond ((day_in next.now).tradable t) None (from (slice_index_or sources.now t None) None (market_of d n prices.now).repriced) }
+{
+    array::from_fn(|class| carried_prices(day, next, prices, sources[class], class))
+}
+
+impl<T: Terms> Store<T> {
+    // Whether every tradable class has a price today.
+    fn all_priced(&self) -> bool
+        ensures { result ≡ all_below (meaning_in self.now).classes (λ c. cond ((today (meaning_in self.now) (state_in self.now)).tradable c) (is_some ((state_in self.now).market.today c)) true) }
+    {
+        let day = self.day();
+        (0..day.classes as usize).all(|class| is_priced(day, &self.tables.prices, class))
+    }
+
+    // Whether another class succeeds to the settling class while that one has a last price.
+    fn is_unsettled(&self) -> bool
+        ensures { result ≡ ((today (meaning_in self.now) (state_in self.now)).taken_over && is_some ((state_in self.now).market.last (meaning_in self.now).settling)) }
+    {
+        self.day().taken_over && self.tables.prices[self.settling() as usize].last.is_some()
+    }
+
+    // Whether every account stays within the limit after the parts; on a day without parts it does.
+    fn keeps_limit(&self) -> bool
+        ensures { result ≡ all_rows (state_in self.now) (λ r. all_below (meaning_in self.now).classes (λ c. lots_fit (after_parts (today (meaning_in self.now) (state_in self.now)) r c))) }
+    {
+        let day = self.day();
+        !day.some_parts || all_keep_limit(&self.tables.accounts, day)
+    }
+
+    // The questions before that of the cash: the first that is answered no.
+    fn may_close(&self, room: usize) -> Result<(), Fault>
+        ensures { result ≡ reply (may_close (today (meaning_in self.now) (state_in self.now)) (state_in self.now) room) tt }
+    {
+        if self.tables.accounts.len() > room {
+            return Err(Fault::ListTooShort);
+        }
+        if !self.all_priced() {
+            return Err(Fault::ClassUnpriced);
+        }
+        if self.is_unsettled() {
+            return Err(Fault::SettlingUnsettled);
+        }
+        if !self.keeps_limit() {
+            return Err(Fault::PartsOutOfRange);
+        }
+        if !is_by_end(self.day().next) {
+            return Err(Fault::NoDayLeft);
+        }
+        Ok(())
+    }
+
+    // What each account is paid.
+    fn close_pays(&self) -> [i64; 32]
+        ensures { (a : ℕ) → a < (state_in self.now).made.accounts → at result a ≡ close_pay (today (meaning_in self.now) (state_in self.now)) (state_in self.now).market ((state_in self.now).rows a) }
+    {
+        let day = self.day();
+        let quotes = all_quotes(day, &self.tables.prices);
+        let pays = variation_pays(&self.tables.accounts, &quotes, day.classes);
+        if !day.some_parts {
+            return pays;
+        }
+        let newest = newest_cents(day, &self.tables.prices);
+        pays_with_parts(&self.tables.accounts, &pays, day, &newest)
+    }
+
+    // The accounts are paid, and lots and prices go on to the next open day, where all questions were answered yes.
+    fn go_on(&mut self, pays: &[i64; 32])
+        requires ready { Ready self.old }
+        requires may { may_close (today (meaning_in self.old) (state_in self.old)) (state_in self.old) (state_in self.old).made.accounts ≡ None }
+        requires fits { CashFits self.old.tables.accounts.items pays.now }
+        requires pays { (a : ℕ) → a < (state_in self.old).made.accounts → at pays.now a ≡ close_pay (today (meaning_in self.old) (state_in self.old)) (state_in self.old).market ((state_in self.old).rows a) }
+        ensures terms { terms_in self.new ≡ terms_in self.old }
+        ensures state { (room : ℕ) → state_in self.new ≡ done (meaning_in self.old) (state_in self.old) (Close room) }
+    {
+        let day = *self.day();
+        let sources = day.sources();
+        self.dated.go_to(day.next.unwrap_or(0));
+        close_all(&mut self.tables.accounts, pays);
+        if !day.all_stay {
+            carry_all(&mut self.tables.accounts, &day, &sources);
+        }
+        self.tables.prices = all_carried_prices(&day, self.dated.table(), &self.tables.prices, &sources);
+    }
+
+    fn close(&mut self, list: &mut [Payment]) -> Result<(), Fault>
+        requires { Ready self.old }
+        ensures answer { result ≡ reply (refusal (meaning_in self.old) (state_in self.old) (Close (length list.old))) tt }
+        ensures after { state_in self.new ≡ after (meaning_in self.old) (state_in self.old) (Close (length list.old)) }
+        ensures list { list.new ≡ list_after (meaning_in self.old) (state_in self.old) (Close (length list.old)) list.old }
+        ensures terms { terms_in self.new ≡ terms_in self.old }
+    {
+        self.may_close(list.len())?;
+        let pays = self.close_pays();
+        if !may_pay(&self.tables.accounts, &pays) {
+            return Err(Fault::CashOutOfRange);
+        }
+        write_lines(self.tables.accounts.len() as u32, &pays, list);
+        self.go_on(&pays);
+        Ok(())
+    }
+}
+
+impl<T: Terms> Book<T> {
+    /// The end of the day: variation margin, cascading and shifting. The list gets a line for each account; a refusal leaves
+    /// it as it was.
+    pub fn close(&mut self, list: &mut [Payment]) -> Result<(), Fault>
+        ensures answer { result ≡ reply (refused self.old (Close (length list.old))) tt }
+        ensures after { book_of self.new ≡ left self.old (Close (length list.old)) }
+        ensures list { list.new ≡ listed self.old (Close (length list.old)) list.old }
+        ensures terms { terms_of self.new ≡ terms_of self.old }
+        ensures life { GoesOn self.old (Close (length list.old)) self.new }
+    {
+        self.store.close(list)
+    }
+}
