@@ -1,3 +1,4 @@
 pub mod Days
 pub mod Lives
 pub mod ClassLines
+pub mod Fresh
