@@ -10,3 +10,4 @@ pub mod AccountRows
 pub mod Passes
 pub mod Sides
 pub mod Trades
+pub mod Fresh
