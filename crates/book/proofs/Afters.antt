@@ -15,7 +15,7 @@ pub replied : {A : Type 0} (o : Option Fault) (x y : A) → reply o x ≡ Ok y �
 replied None x y e = refl
 replied (Some f) x y e = absurd (false≢true (ap is_ok e))
 
-err_or : {A : Type 0} → Fault → Result A Fault → Option Fault
+abbrev err_or : {A : Type 0} → Fault → Result A Fault → Option Fault
 err_or g (Ok x) = Some g
 err_or g (Err f) = Some f
 
