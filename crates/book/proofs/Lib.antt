@@ -11,3 +11,4 @@ pub mod Passes
 pub mod Sides
 pub mod Trades
 pub mod Fresh
+pub mod Replays
