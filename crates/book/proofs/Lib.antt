@@ -12,3 +12,4 @@ pub mod Sides
 pub mod Trades
 pub mod Fresh
 pub mod Settles
+pub mod Replays
