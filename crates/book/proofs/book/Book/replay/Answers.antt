@@ -1,4 +1,4 @@
-use Rattle.std.proofs.Common.{◌≡◌, ◌+◌, length, List, map, reverse, get_or, take, set, pos, None, refl, ap, ◌∙◌, subst, sym, arith}
+use Rattle.std.proofs.Common.{◌≡◌, ◌+◌, map, reverse, get_or, take, set, pos, None, refl, ap, ◌∙◌, subst, sym, arith}
 use lib.Seq.{map-set_same}
 use Rattle.book.proofs.Replays.{one-more}
 use Rattle.book.specs.Books.{book_of, meaning_of}
