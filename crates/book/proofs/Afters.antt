@@ -1,5 +1,5 @@
 -- What a call leaves, by its answer. Assumes nothing.
-use Rattle.std.proofs.Common.{◌≡◌, ℕ, Bool, true, false, cond, not, ◌&&◌, leb, ltb, is_some, ℤ, Some, None, Ok, Err, Option, Result, is_ok, is_err, sym, refl, ap, ◌∙◌}
+use Rattle.std.proofs.Common.{◌≡◌, ℕ, Bool, true, false, cond, not, ◌&&◌, leb, ltb, is_some, ℤ, Some, None, Ok, Err, Option, Result, is_ok, is_err, sym, refl, ap}
 use Rattle.ledger.specs.Calls.{refusal, done, after, today, price_fits, lots_fit, cash_fits, by_end, all_rows, after_parts, row_settled, row_closed}
 use Rattle.ledger.specs.State.{State}
 use Rattle.ledger.specs.Words.{all_below, ask, unless, reply}

@@ -1,14 +1,14 @@
 -- Where lots go at a close, by a table read off the terms. Assumes nothing.
-use Rattle.std.proofs.Common.{◌≡◌, ℕ, ◌<◌, ◌≤◌, Bool, true, false, cond, not, leb, is_some, List, map, length, get_or, ℤ, pos, ◌+ℤ◌, Option, Some, None, sym, ap, ◌∙◌, subst, ⊎_elim, arith}
+use Rattle.std.proofs.Common.{◌≡◌, ℕ, ◌<◌, ◌≤◌, true, false, cond, not, leb, is_some, List, map, length, get_or, ℤ, pos, ◌+ℤ◌, Option, Some, None, sym, ap, ◌∙◌, subst, ⊎_elim, arith}
 use Rattle.amounts.proofs.Sums.{sum-nil}
-use Rattle.amounts.specs.SumsOfWhole.{sum_z, if_z}
+use Rattle.amounts.specs.SumsOfWhole.{if_z}
 use Rattle.book.specs.Rows.{Known}
 use Rattle.day_table.proofs.Tables.{read-day, all-stay, source-past, source-known}
 use Rattle.day_table.specs.Table.{table_of, day_in}
 use Rattle.day_table.specs.declared.table.DayTable.{DayTable}
 use Rattle.ledger.specs.Calls.{after_parts, lots_fit, refusal, today}
 use Rattle.ledger.specs.Ledger.{Keeps}
-use Rattle.ledger.specs.State.{Row, State}
+use Rattle.ledger.specs.State.{State}
 use Rattle.ledger.specs.Words.{all_below, from}
 use Rattle.ledger.specs.declared.call.Call.TheVariants.{Close}
 use Rattle.ledger.proofs.Tests.{all-each, ask-none}

@@ -39,7 +39,12 @@ fn is_priced(day: &DayTable, prices: &[Prices; 12], class: usize) -> bool
 }
 
 // What a class has from the one that it succeeds: its newest price and its repricing.
-fn handed(day: &DayTable, prices: &[Prices; 12], sources: &[Option<u32>; 12], class: usize) -> Prices
+fn handed(
+    day: &DayTable,
+    prices: &[Prices; 12],
+    sources: &[Option<u32>; 12],
+    class: usize,
+) -> Prices
     requires { (class < 12) × (Known 12 sources.now) }
     ensures last { cents_in result.last ≡ from (slice_index_or sources.now class None) None (newest (day_in day.now) (market_of 0 0 prices.now)) }
     ensures today { cents_in result.today ≡ None }
@@ -56,7 +61,13 @@ fn handed(day: &DayTable, prices: &[Prices; 12], sources: &[Option<u32>; 12], cl
 }
 
 // The prices of a class on the next day.
-fn carried_prices(day: &DayTable, next: &DayTable, prices: &[Prices; 12], sources: &[Option<u32>; 12], class: usize) -> Prices
+fn carried_prices(
+    day: &DayTable,
+    next: &DayTable,
+    prices: &[Prices; 12],
+    sources: &[Option<u32>; 12],
+    class: usize,
+) -> Prices
     requires { (class < 12) × (Known 12 sources.now) }
     ensures last { cents_in result.last ≡ from (slice_index_or sources.now class None) None (newest (day_in day.now) (market_of 0 0 prices.now)) }
     ensures today { cents_in result.today ≡ None }
@@ -104,7 +115,12 @@ fn carry_accounts(accounts: &mut [Account], day: &DayTable, sources: &[Option<u3
 }
 
 // Each account is paid, and its lots go on to the next open day.
-fn close_accounts(accounts: &mut [Account], pays: &[i64; 32], day: &DayTable, sources: &[Option<u32>; 12])
+fn close_accounts(
+    accounts: &mut [Account],
+    pays: &[i64; 32],
+    day: &DayTable,
+    sources: &[Option<u32>; 12],
+)
     requires pays { (length accounts.old ≤ 32) × (CashFits accounts.old pays.now) }
     requires known { Known day.now.classes sources.now }
     requires day { (day.now.classes ≤ 12) × (Flagged day.now) }

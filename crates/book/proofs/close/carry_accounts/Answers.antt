@@ -1,4 +1,4 @@
-use Rattle.std.proofs.Common.{◌≡◌, ℕ, sym}
+use Rattle.std.proofs.Common.{sym}
 use Rattle.book.specs.Rows.{rows_of}
 use Rattle.book.proofs.close.carry_accounts.Goals as goal
 

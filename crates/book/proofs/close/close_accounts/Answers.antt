@@ -1,9 +1,8 @@
-use Rattle.std.proofs.Common.{◌≡◌, ℕ, ◌<◌, true, length, None, pos, get_or, sym, ap, ◌∙◌, subst, arith}
-use Rattle.book.specs.Rows.{rows_of, row_credited}
+use Rattle.std.proofs.Common.{◌≡◌, ◌<◌, length, None, pos, get_or, sym, ap, ◌∙◌, subst, arith}
 use Rattle.day_table.specs.Table.{day_in}
 use Rattle.ledger.specs.Calls.{lots_fit, after_parts}
 use Rattle.ledger.specs.State.{Row}
-use Rattle.ledger.specs.Words.{all_below, at, from}
+use Rattle.ledger.specs.Words.{all_below, from}
 use Rattle.book.proofs.close.close_accounts.Goals as goal
 
 pub carry_accounts-requires-clause-keeps : goal.carry_accounts-requires-clause-keeps

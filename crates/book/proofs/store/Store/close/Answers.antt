@@ -1,4 +1,4 @@
-use Rattle.std.proofs.Common.{◌≡◌, ℕ, None, Option, sym, ap, ◌∙◌, length}
+use Rattle.std.proofs.Common.{Option, sym, ap, ◌∙◌, length}
 use Rattle.book.proofs.Afters.{accepted}
 use Rattle.book.proofs.Settles.{written_same}
 use Rattle.book.specs.Stores.{meaning_in, state_in}

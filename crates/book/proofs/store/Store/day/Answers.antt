@@ -1,4 +1,4 @@
-use Rattle.std.proofs.Common.{◌≡◌, ◌≤◌, sym, ap, ◌∙◌, subst}
+use Rattle.std.proofs.Common.{◌≤◌, sym, ap, ◌∙◌, subst}
 use Rattle.book.proofs.Days.{tells, twelve, flagged, small}
 use Rattle.book.specs.Rows.{Flagged, SmallDay}
 use Rattle.day_table.specs.Table.{day_in}

@@ -1,8 +1,7 @@
-use Rattle.std.proofs.Common.{◌≡◌, ℕ, ◌<◌, ◌≤◌, true, cond, List, length, take, get_or, Option, None, unwrap_or, pos, sym, ap, ◌∙◌, subst, arith}
+use Rattle.std.proofs.Common.{◌≡◌, ℕ, ◌<◌, cond, List, length, take, None, unwrap_or, pos, sym, ap, ◌∙◌, arith}
 use Rattle.book.proofs.Settles.{each-row}
 use Rattle.book.proofs.Stays.{sources-are, sources-known, lots-stay, kept}
 use Rattle.book.proofs.Trades.{refilled}
-use Rattle.book.specs.Markets.{market_of}
 use Rattle.book.specs.Rows.{rows_of, row_carried, row_credited}
 use Rattle.book.specs.Stores.{meaning_in, state_in}
 use Rattle.book.specs.declared.account.Account.{Account}
@@ -10,9 +9,8 @@ use Rattle.day_table.proofs.Tables.{read-day}
 use Rattle.day_table.specs.Table.{table_of, day_in}
 use Rattle.day_table.specs.declared.table.DayTable.{DayTable}
 use Rattle.ledger.proofs.Linear.{nil-moved}
-use Rattle.ledger.specs.Calls.{today, tomorrow, newest, lots_fit, after_parts, row_closed, market_closed}
-use Rattle.ledger.specs.State.{Market, Row}
-use Rattle.ledger.specs.Words.{all_below, at, from}
+use Rattle.ledger.specs.Calls.{today, newest, lots_fit, after_parts, row_closed}
+use Rattle.ledger.specs.Words.{all_below, from}
 use Rattle.ledger.specs.declared.call.Call.TheVariants.{Close}
 use Rattle.terms.specs.Day.{Day}
 use Rattle.book.proofs.store.Store.go_on.Goals as goal
