@@ -1,13 +1,14 @@
 -- What a book holds, and what a call makes of it. Assumes nothing.
-use Rattle.std.specs.Prelude.{ℕ, List, ℤ, Option, Result}
+use Rattle.std.specs.Prelude.{◌≡◌, ℕ, List, ℤ, ⊤, None, Option, Some, Err, Ok, Result}
 use Rattle.book.specs.Stores.{terms_in, state_in}
 use Rattle.book.specs.declared.book.Book.{Book}
+use Rattle.book.specs.declared.make.NotMade.{NotMade}
 use Rattle.coded.specs.declared.class_line.ClassLine.{ClassLine}
 use Rattle.ledger.specs.Calls.{refusal, after}
 use Rattle.ledger.specs.Ledger.{LivesOn}
 use Rattle.ledger.specs.Make.{made_of, make_refusal}
 use Rattle.ledger.specs.Questions.{margins_refusal, margins, holding_refusal, holding, cash_refusal, cash, list_after}
-use Rattle.ledger.specs.State.{State}
+use Rattle.ledger.specs.State.{State, new_state}
 use Rattle.ledger.specs.Words.{reply}
 use Rattle.ledger.specs.declared.call.Call.{Call}
 use Rattle.ledger.specs.declared.fault.Fault.{Fault}
@@ -31,9 +32,21 @@ module _ {T : Type 0} {g : Ghosts T} where
   abbrev pub book_of : Book T g → State
   book_of b = state_in b.store
 
-  -- the question of a call that is answered no, if one is; what the book holds afterwards; a payment list afterwards
+  -- no lots, cash and prices yet, on the first open day of its month
+  abbrev pub IsNew : Book T g → ℕ → ℕ → List ClassLine → Type 0
+  IsNew b month accounts lines = book_of b ≡ new_state (meaning_of b) (made_of month accounts lines)
+
+  -- why no book was made, where none was
+  abbrev pub unmade : Result (Book T g) (NotMade T) → Option Fault
+  unmade (Ok b) = None
+  unmade (Err e) = Some e.fault
+
+  -- the question of a call that is answered no, if one is; the answer; what the book holds afterwards; a payment list afterwards
   abbrev pub refused : Book T g → Call → Option Fault
   refused b call = refusal (meaning_of b) (book_of b) call
+
+  abbrev pub answer : Book T g → Call → Result ⊤ Fault
+  answer b call = reply (refused b call) tt
 
   abbrev pub left : Book T g → Call → State
   left b call = after (meaning_of b) (book_of b) call

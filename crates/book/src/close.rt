@@ -1,6 +1,6 @@
 // Close: the end of a day.
 ghost use Rattle.std.specs.Prelude.{◌≡◌, ℕ, ◌<◌, ◌≤◌, true, length, pos, None, Some, Ok, cond, ◌&&◌, is_some, IfOk, MatchResult, slice_index_or};
-ghost use Rattle.book.specs.Books.{book_of, terms_of, refused, left, listed, GoesOn};
+ghost use Rattle.book.specs.Books.{book_of, terms_of, left, listed, GoesOn, answer};
 ghost use Rattle.book.specs.Markets.{cents_in, market_of};
 ghost use Rattle.book.specs.Rows.{rows_of, row_carried, row_credited, CashFits, Flagged, Known};
 ghost use Rattle.book.specs.Stores.{meaning_in, state_in, terms_in, Ready, day_in_store, accounts_in, refused_in, done_in, left_in, listed_in, Pays};
@@ -241,7 +241,7 @@ impl<T: Terms> Book<T> {
     /// The end of the day: variation margin, cascading and shifting. The list gets a line for each account; a refusal leaves
     /// it as it was.
     pub fn close(&mut self, list: &mut [Payment]) -> Result<(), Fault>
-        ensures answer { result ≡ reply (refused self.old (Close (length list.old))) tt }
+        ensures answer { result ≡ answer self.old (Close (length list.old)) }
         ensures after { book_of self.new ≡ left self.old (Close (length list.old)) }
         ensures list { list.new ≡ listed self.old (Close (length list.old)) list.old }
         ensures terms { terms_of self.new ≡ terms_of self.old }

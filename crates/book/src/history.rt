@@ -1,9 +1,8 @@
 // A whole history: a book is made and handed a list of calls.
-ghost use Rattle.std.specs.Prelude.{◌≡◌, map, reverse, IfOk, IfErr, None, Some, MatchResult};
-ghost use Rattle.book.specs.Books.{book_of, meaning_of, terms_of, refused, left, listed, GoesOn, refused_make};
+ghost use Rattle.std.specs.Prelude.{◌≡◌, map, reverse, IfOk, IfErr, MatchResult};
+ghost use Rattle.book.specs.Books.{book_of, meaning_of, terms_of, refused, left, listed, GoesOn, refused_make, answer, unmade};
 ghost use Rattle.ledger.specs.Ledger.{Life};
 ghost use Rattle.ledger.specs.Make.{made_of};
-ghost use Rattle.ledger.specs.Words.{reply};
 ghost use Rattle.ledger.specs.declared.call.Call.TheVariants.{Settle, Close};
 
 use crate::book::Book;
@@ -25,7 +24,7 @@ impl<T: Terms> Book<T> {
         room: usize,
         list: &mut [Payment; 32],
     ) -> Result<(), Fault>
-        ensures answer { result ≡ reply (refused self.old (Settle price room)) tt }
+        ensures answer { result ≡ answer self.old (Settle price room) }
         ensures after { book_of self.new ≡ left self.old (Settle price room) }
         ensures list { list.new ≡ listed self.old (Settle price room) list.old }
         ensures terms { terms_of self.new ≡ terms_of self.old }
@@ -35,7 +34,7 @@ impl<T: Terms> Book<T> {
 
     // A close whose payment list has so many lines: the first of the list.
     fn close_with(&mut self, room: usize, list: &mut [Payment; 32]) -> Result<(), Fault>
-        ensures answer { result ≡ reply (refused self.old (Close room)) tt }
+        ensures answer { result ≡ answer self.old (Close room) }
         ensures after { book_of self.new ≡ left self.old (Close room) }
         ensures list { list.new ≡ listed self.old (Close room) list.old }
         ensures terms { terms_of self.new ≡ terms_of self.old }
@@ -46,7 +45,7 @@ impl<T: Terms> Book<T> {
     /// Any call, and its answer. A call is data: `replay` is handed a list of them, and the law of the ledger speaks of it.
     /// A settle and a close get the first lines of the list, as many as the call says.
     pub fn call(&mut self, call: Call, list: &mut [Payment; 32]) -> Result<(), Fault>
-        ensures answer { result ≡ reply (refused self.old call) tt }
+        ensures answer { result ≡ answer self.old call }
         ensures after { book_of self.new ≡ left self.old call }
         ensures list { list.new ≡ listed self.old call list.old }
         ensures terms { terms_of self.new ≡ terms_of self.old }
@@ -86,9 +85,8 @@ impl<T: Terms> Book<T> {
         lines: &[ClassLine],
         entries: &mut [Entry],
     ) -> Result<Book<T>, NotMade<T>>
-        ensures made { IfOk result (λ b. refused_make (T.meaning terms) month accounts lines.now ≡ None) }
         ensures terms { MatchResult result (λ b. terms_of b ≡ terms) (λ e. e.terms ≡ terms) }
-        ensures refused { IfErr result (λ e. refused_make (T.meaning terms) month accounts lines.now ≡ Some e.fault) }
+        ensures refused { refused_make (T.meaning terms) month accounts lines.now ≡ unmade result }
         ensures untouched { IfErr result (λ e. entries.new ≡ entries.old) }
         ensures calls { map (λ e. e.call) entries.new ≡ map (λ e. e.call) entries.old }
         ensures begun { IfOk result (λ b. (book_of b).made ≡ made_of month accounts lines.now) }

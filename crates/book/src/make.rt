@@ -1,6 +1,6 @@
 // Make: a new book.
-ghost use Rattle.std.specs.Prelude.{◌≡◌, ◌≤◌, true, [], length, IfOk, IfErr, Some, None, Ok, MatchResult};
-ghost use Rattle.book.specs.Books.{book_of, meaning_of, terms_of, refused_make};
+ghost use Rattle.std.specs.Prelude.{◌≡◌, ◌≤◌, true, [], length, IfOk, None, Ok, MatchResult};
+ghost use Rattle.book.specs.Books.{book_of, meaning_of, terms_of, refused_make, IsNew, unmade};
 ghost use Rattle.book.specs.Lines.{line_fits, filled as filled_with};
 ghost use Rattle.book.specs.Stores.{state_in, terms_in};
 ghost use Rattle.ledger.specs.Ledger.{Life};
@@ -118,10 +118,9 @@ impl<T: Terms> Book<T> {
         accounts: u32,
         lines: &[ClassLine],
     ) -> Result<Book<T>, NotMade<T>>
-        ensures made { IfOk result (λ b. refused_make (T.meaning terms) month accounts lines.now ≡ None) }
-        ensures state { IfOk result (λ b. book_of b ≡ new_state (T.meaning terms) (made_of month accounts lines.now)) }
+        ensures state { IfOk result (λ b. IsNew b month accounts lines.now) }
         ensures terms { MatchResult result (λ b. terms_of b ≡ terms) (λ e. e.terms ≡ terms) }
-        ensures refused { IfErr result (λ e. refused_make (T.meaning terms) month accounts lines.now ≡ Some e.fault) }
+        ensures refused { refused_make (T.meaning terms) month accounts lines.now ≡ unmade result }
         ensures life { IfOk result (λ b. Life (meaning_of b) [] (book_of b)) }
     {
         if let Err(fault) = may_make(&terms, month, accounts, lines) {

@@ -1,6 +1,6 @@
 // Mark and reprice: the prices that a caller sets.
 ghost use Rattle.std.specs.Prelude.{◌≡◌, ◌<◌, ◌≤◌, true, not, ◌&&◌, is_some, nat_lt, Ok};
-ghost use Rattle.book.specs.Books.{book_of, terms_of, refused, left, GoesOn};
+ghost use Rattle.book.specs.Books.{book_of, terms_of, left, GoesOn, answer};
 ghost use Rattle.book.specs.Stores.{meaning_in, state_in, terms_in, day_in_store, refused_in, left_in};
 ghost use Rattle.ledger.specs.Calls.{after};
 ghost use Rattle.ledger.specs.Words.{reply};
@@ -65,7 +65,7 @@ impl<T: Terms> Store<T> {
 impl<T: Terms> Book<T> {
     /// The day's price of a tradable class, in cents; a later mark replaces an earlier one.
     pub fn mark(&mut self, class: u32, price: i32) -> Result<(), Fault>
-        ensures answer { result ≡ reply (refused self.old (Mark class price)) tt }
+        ensures answer { result ≡ answer self.old (Mark class price) }
         ensures after { book_of self.new ≡ left self.old (Mark class price) }
         ensures terms { terms_of self.new ≡ terms_of self.old }
         ensures life { GoesOn self.old (Mark class price) self.new }
@@ -75,7 +75,7 @@ impl<T: Terms> Book<T> {
 
     /// A new price of a delivery class in cents, for margins only.
     pub fn reprice(&mut self, class: u32, price: i32) -> Result<(), Fault>
-        ensures answer { result ≡ reply (refused self.old (Reprice class price)) tt }
+        ensures answer { result ≡ answer self.old (Reprice class price) }
         ensures after { book_of self.new ≡ left self.old (Reprice class price) }
         ensures terms { terms_of self.new ≡ terms_of self.old }
         ensures life { GoesOn self.old (Reprice class price) self.new }

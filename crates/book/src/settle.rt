@@ -1,6 +1,6 @@
 // Settle: the final payment of the settling class.
 ghost use Rattle.std.specs.Prelude.{◌≡◌, ℕ, ℤ, ◌<◌, ◌≤◌, Some, length, None, IfOk, IfSome, MatchResult, unsigned_abs};
-ghost use Rattle.book.specs.Books.{book_of, terms_of, refused, left, listed, GoesOn};
+ghost use Rattle.book.specs.Books.{book_of, terms_of, left, listed, GoesOn, answer};
 ghost use Rattle.book.specs.Rows.{CashFits};
 ghost use Rattle.book.specs.Stores.{meaning_in, state_in, terms_in, Ready, day_in_store, accounts_in, refused_in, done_in, left_in, listed_in, Pays};
 ghost use Rattle.ledger.specs.Calls.{refusal, after, settle_pay};
@@ -95,7 +95,7 @@ impl<T: Terms> Book<T> {
     /// The final price of the settling class, in cents: its lots are paid out and its months are finally settled. The list
     /// gets a line for each account; a refusal leaves it as it was.
     pub fn settle(&mut self, price: i32, list: &mut [Payment]) -> Result<(), Fault>
-        ensures answer { result ≡ reply (refused self.old (Settle price (length list.old))) tt }
+        ensures answer { result ≡ answer self.old (Settle price (length list.old)) }
         ensures after { book_of self.new ≡ left self.old (Settle price (length list.old)) }
         ensures list { list.new ≡ listed self.old (Settle price (length list.old)) list.old }
         ensures terms { terms_of self.new ≡ terms_of self.old }

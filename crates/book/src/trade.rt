@@ -1,6 +1,6 @@
 // Trade: lots go from a seller to a buyer.
 ghost use Rattle.std.specs.Prelude.{◌≡◌, ◌<◌, ◌≤◌, true, ◌&&◌, ◌==◌, pos, ◌+ℤ◌, ◌-ℤ◌, Ok, unsigned_abs};
-ghost use Rattle.book.specs.Books.{book_of, terms_of, refused, left, GoesOn};
+ghost use Rattle.book.specs.Books.{book_of, terms_of, left, GoesOn, answer};
 ghost use Rattle.book.specs.Stores.{state_in, terms_in, Ready, accounts_in, refused_in, done_in, left_in};
 ghost use Rattle.ledger.specs.Calls.{after, lots_fit};
 ghost use Rattle.ledger.specs.Words.{reply, within};
@@ -116,7 +116,7 @@ impl<T: Terms> Book<T> {
         lots: i32,
         price: i32,
     ) -> Result<(), Fault>
-        ensures answer { result ≡ reply (refused self.old (Trade buyer seller class lots price)) tt }
+        ensures answer { result ≡ answer self.old (Trade buyer seller class lots price) }
         ensures after { book_of self.new ≡ left self.old (Trade buyer seller class lots price) }
         ensures terms { terms_of self.new ≡ terms_of self.old }
         ensures life { GoesOn self.old (Trade buyer seller class lots price) self.new }
