@@ -7,8 +7,8 @@ import sys
 
 LAYERS = [
     ("dates", "dates"), ("coded", "search"), ("calendars", "calendars"), ("text", "text"), ("holidays", "closed days"),
-    ("terms", "terms"), ("power", "power"), ("wheat", "wheat"), ("single_month", "one month"), ("products", "products"),
-    ("amounts", "amounts"), ("ledger", "ledger"), ("closing", "close of a day"), ("book", "book"), ("figures", "figures"),
+    ("terms", "terms"), ("day_table", "day table"), ("power", "power"), ("wheat", "wheat"), ("single_month", "one month"), ("products", "products"),
+    ("amounts", "amounts"), ("ledger", "ledger"), ("book", "book"), ("figures", "figures"),
     ("history", "history"), ("journal", "journal"), ("rows", "sheet rows"), ("sheet", "sheet"), ("day_sheet", "day sheet"),
     ("iso", "a life"), ("questions", "a life"), ("life", "a life"), ("reckoning", "a life"), ("setup", "a life"),
     ("telling", "walkthrough"), ("walkthrough_money", "walkthrough"),
