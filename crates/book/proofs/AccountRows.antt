@@ -1,5 +1,5 @@
 -- The rows of accounts in a list: one account set, one read, all tested. Assumes nothing.
-use Rattle.std.proofs.Common.{◌≡◌, ℕ, zero, suc, ◌<◌, Bool, true, false, MatchBool, cond, eqb, List, [], ◌∷◌, ◌++◌, map, length, get_or, set, sym, ap, refl, ◌∙◌, subst, arith}
+use Rattle.std.proofs.Common.{◌≡◌, ℕ, ◌<◌, Bool, true, false, MatchBool, cond, eqb, List, [], ◌∷◌, map, length, get_or, set, sym, ap, ◌∙◌, subst, arith}
 use Rattle.std.proofs.lemmas.List.{map-set, length-map, get_or-map}
 use Rattle.std.specs.List.{AllWithin, HoldsAt}
 use Rattle.book.proofs.Places.{read_set}

@@ -1,5 +1,5 @@
 -- What a call leaves, by its answer. Assumes nothing.
-use Rattle.std.proofs.Common.{◌≡◌, ℕ, true, not, ◌&&◌, ltb, is_some, ℤ, Some, None, Ok, Option, Result, is_ok, sym, refl, ap, ◌∙◌}
+use Rattle.std.proofs.Common.{◌≡◌, ℕ, true, not, ◌&&◌, ltb, is_some, ℤ, Some, None, Ok, Err, Option, Result, is_ok, is_err, sym, refl, ap, ◌∙◌}
 use Rattle.ledger.specs.Calls.{refusal, done, after, today, price_fits}
 use Rattle.ledger.specs.State.{State}
 use Rattle.ledger.specs.Words.{ask, unless, reply}
@@ -14,6 +14,14 @@ use Rattle.terms.specs.Meaning.{Meaning}
 pub replied : {A : Type 0} (o : Option Fault) (x y : A) → reply o x ≡ Ok y → o ≡ None
 replied None x y e = refl
 replied (Some f) x y e = absurd (false≢true (ap is_ok e))
+
+abbrev err_or : {A : Type 0} → Fault → Result A Fault → Option Fault
+err_or g (Ok x) = Some g
+err_or g (Err f) = Some f
+
+pub replied-err : {A : Type 0} (o : Option Fault) (x : A) (f : Fault) → reply o x ≡ Err f → o ≡ Some f
+replied-err None x f e = absurd (false≢true (ap is_err e))
+replied-err (Some g) x f e = ap (err_or g) e
 
 pub accepted : (w : Meaning) (s : State) (call : Call) → refusal w s call ≡ None → after w s call ≡ done w s call
 accepted w s call e = ap (λ o. unless o (done w s call) s) e

@@ -9,3 +9,5 @@ pub mod Places
 pub mod AccountRows
 pub mod Passes
 pub mod Sides
+pub mod Trades
+pub mod Fresh

@@ -32,9 +32,14 @@ lived-made w s lived =
 pub lived-on : (w : Meaning) (s : State) (call : Call) (t : State) → ∥ Lived w s ∥₁ → LivesOn w s call t → ∥ Lived w t ∥₁
 lived-on w s call t lived f = ∥∥₁_map lived (λ l. record { history = record { call = call; answer = refusal w s call } ∷ l.history; life = f l.history l.life })
 
--- a new book
-pub lived-new : (w : Meaning) → Laws w → (m : Made) → make_refusal w m ≡ None → (s : State) → s ≡ new_state w m → ∥ Lived w s ∥₁
-lived-new w law m q s e = ∣ record { history = []; life = subst (Life w []) (sym e) (begins w law m q) } ∣₁
+-- a new store begins a life
+pub new-life : {T : Type 0} {g : Ghosts T} (s : Store T g) (terms : T) (m : Made) → Laws (g.meaning terms) → make_refusal (g.meaning terms) m ≡ None → terms_in s ≡ terms → state_in s ≡ new_state (g.meaning terms) m → Life (meaning_in s) [] (state_in s)
+new-life {g = g} s terms m law q same e =
+    subst (λ x. Life (g.meaning x) [] (state_in s)) (sym same)
+    (subst (Life (g.meaning terms) []) (sym e) (begins (g.meaning terms) law m q))
+
+pub lived-new : (w : Meaning) (s : State) → Life w [] s → ∥ Lived w s ∥₁
+lived-new w s l = ∣ record { history = []; life = l } ∣₁
 
 -- what a call may rely on of the store of a book
 pub ready : {T : Type 0} {g : Ghosts T} (s : Store T g) → ∥ Lived (meaning_in s) (state_in s) ∥₁ → Ready s

@@ -1,5 +1,5 @@
 -- A loop that changes the accounts of a list in turn. Assumes nothing.
-use Rattle.std.proofs.Common.{◌≡◌, ℕ, ◌+◌, ◌<◌, ◌≤◌, List, length, get_or, set, sym, refl, ap, ◌∙◌, subst, ⊎_elim, length-set, arith}
+use Rattle.std.proofs.Common.{◌≡◌, ℕ, ◌+◌, ◌<◌, ◌≤◌, List, length, get_or, set, sym, ap, ◌∙◌, ⊎_elim, length-set, arith}
 use Rattle.std.proofs.lemmas.Bool.{cases_eq}
 use Rattle.book.proofs.AccountRows.{rows-set, rows-at}
 use Rattle.book.specs.Rows.{row_of, rows_of}
@@ -22,11 +22,11 @@ module _ (f : ℕ → Row → Row) (xs : List Account) (i : ℕ) (ys : List Acco
   passed-more d y h e =
       let l : i < length ys = omega (arith, p.long) in
       record {
-    long = length-set ys i y ∙ p.long;
-    done = λ k lk hk.
-        ⊎_elim
-        (λ (q : k ≡ i). rows-set ys i k y l ∙ put-here k i (row_of y) (rows_of ys k) q ∙ e ∙ ap (f i) (sym (turn d h)) ∙ (λ j. f (sym q j) (rows_of xs (sym q j))))
-        (λ (q : k ≡ i → ⊥). rows-set ys i k y l ∙ put-there k i (row_of y) (rows_of ys k) q ∙ p.done k (omega arith) hk)
-        (cases_eq k i);
-    rest = λ k lk. rows-set ys i k y l ∙ put-there k i (row_of y) (rows_of ys k) (λ q. omega arith) ∙ p.rest k (omega arith);
-  }
+        long = length-set ys i y ∙ p.long;
+        done = λ k lk hk.
+            ⊎_elim
+            (λ (q : k ≡ i). rows-set ys i k y l ∙ put-here k i (row_of y) (rows_of ys k) q ∙ e ∙ ap (f i) (sym (turn d h)) ∙ (λ j. f (sym q j) (rows_of xs (sym q j))))
+            (λ (q : k ≡ i → ⊥). rows-set ys i k y l ∙ put-there k i (row_of y) (rows_of ys k) q ∙ p.done k (omega arith) hk)
+            (cases_eq k i);
+        rest = λ k lk. rows-set ys i k y l ∙ put-there k i (row_of y) (rows_of ys k) (λ q. omega arith) ∙ p.rest k (omega arith);
+      }

@@ -1,5 +1,5 @@
 -- The two sides of a trade. Assumes nothing.
-use Rattle.std.proofs.Common.{◌≡◌, ℕ, cond, eqb, Bool, true, false, ℤ, pos, ◌+ℤ◌, ◌*ℤ◌, neg_ℤ, sym, ap, refl, ◌∙◌, ⊎_elim, arith}
+use Rattle.std.proofs.Common.{◌≡◌, ℕ, cond, eqb, Bool, true, false, ℤ, pos, ◌+ℤ◌, neg_ℤ, sym, ap, ◌∙◌, ⊎_elim, arith}
 use lib.IntN.{zero-*ℤ}
 use Rattle.amounts.proofs.Sums.{hit, miss}
 use Rattle.amounts.specs.SumsOfWhole.{if_z}

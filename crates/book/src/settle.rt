@@ -32,7 +32,13 @@ impl<T: Terms> Store<T> {
     {
         let class = self.settling();
         let quantity = self.day().quantity_of(class);
-        settle_pays(&self.tables.accounts, class, quantity, price.cents, last.cents)
+        settle_pays(
+            &self.tables.accounts,
+            class,
+            quantity,
+            price.cents,
+            last.cents,
+        )
     }
 
     // The settling class is paid out and emptied, where all questions were answered yes.

@@ -2,7 +2,6 @@ use Rattle.std.proofs.Common.{None, slice_index_or}
 use Rattle.book.proofs.Passes.{Passed}
 use Rattle.book.specs.Rows.{row_carried}
 use Rattle.day_table.specs.Table.{day_in}
-use Rattle.ledger.specs.Words.{at}
 use Rattle.book.proofs.accounts.carry_all.Given as goal
 
 abbrev pub invariant-loop-account : goal.invariant-loop-account

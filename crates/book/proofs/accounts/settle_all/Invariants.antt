@@ -1,7 +1,5 @@
-use Rattle.std.proofs.Common.{None, slice_index_or}
 use Rattle.book.proofs.Passes.{Passed}
 use Rattle.book.specs.Rows.{row_paid}
-use Rattle.day_table.specs.Table.{day_in}
 use Rattle.ledger.specs.Words.{at}
 use Rattle.book.proofs.accounts.settle_all.Given as goal
 

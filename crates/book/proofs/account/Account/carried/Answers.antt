@@ -1,6 +1,6 @@
 use Rattle.std.proofs.Common.{◌≡◌, ◌≤◌, ℤ, nat_abs, sym, ◌∙◌, subst, arith, to_z, of_z, w32}
 use Rattle.std.proofs.lemmas.Int.{ints}
-use Rattle.book.proofs.Accounts.{fit-small}
+use Rattle.book.proofs.Places.{fit-small}
 use Rattle.book.specs.Rows.{row_of}
 use Rattle.day_table.specs.Table.{day_in}
 use Rattle.ledger.specs.Calls.{lots_fit, after_parts}
