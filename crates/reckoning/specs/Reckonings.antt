@@ -1,7 +1,7 @@
 -- The law of the ledger in figures, in sentences. Assumes nothing.
 use Rattle.std.specs.Prelude.{ℕ, Bool, List, [], ◌++◌, ℤ, Option, Some, None, ◌==◌, ◌&&◌, cond, codes, nat_lt, decimal, length, unsigned_abs}
 use Rattle.iso.specs.Written.{month_written}
-use Rattle.journal.specs.Figures.{all_lots, all_cash}
+use Rattle.journal.specs.Figures.{sum_of_lots, sum_of_cash}
 use Rattle.ledger.specs.Calls.{known}
 use Rattle.ledger.specs.History.{History, net, booked, final}
 use Rattle.ledger.specs.Ledger.{held, at_last, at_final}
@@ -18,7 +18,7 @@ line sentence = sentence ++ codes "\n"
 
 -- a class of the terms in which the lots of all accounts sum to zero
 abbrev pub even : Meaning → State → ℕ → Bool
-even w s c = nat_lt c w.classes && unsigned_abs (all_lots s c) == 0
+even w s c = nat_lt c w.classes && unsigned_abs (sum_of_lots s c) == 0
 
 -- how many such classes there are
 abbrev pub even_classes : Meaning → State → ℕ
@@ -30,7 +30,7 @@ sums_told even classes cash =
     codes "over all accounts: lots sum to zero in " ++ (decimal even ++ (codes " of " ++ (decimal classes ++ (codes " classes; cash sums to " ++ (signed_decimal cash ++ codes " cents")))))
 
 abbrev pub sums_text : Meaning → State → List ℕ
-sums_text w s = line (sums_told (even_classes w s) w.classes (all_cash s))
+sums_text w s = line (sums_told (even_classes w s) w.classes (sum_of_cash s))
 
 -- ---- of one account
 

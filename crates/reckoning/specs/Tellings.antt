@@ -26,5 +26,5 @@ module _ {T : Type 0} {g : Ghosts T} where
   account_of j a = account_text (meaning_of j) (history_of j) (state_of j) a
 
   -- nothing, where the book does not have the account
-  abbrev pub reckoned_of : Journal T g → ℕ → List ℕ
-  reckoned_of j a = known_text (meaning_of j) (history_of j) (state_of j) a
+  abbrev pub reckoned : Journal T g → ℕ → List ℕ
+  reckoned j a = known_text (meaning_of j) (history_of j) (state_of j) a

@@ -1,11 +1,10 @@
 // Of one account.
 ghost use Rattle.std.specs.Prelude.{◌≡◌, ◌++◌, ◌<◌, IfOk, Some, None, string_bytes};
-ghost use Rattle.journal.specs.Journals.{meaning_of, state_of, history_of, held_in_month, Stated};
+ghost use Rattle.journal.specs.Journals.{meaning_of, state_of, history_of, unknown, held_in_month, Lives, Stated};
 ghost use Rattle.ledger.specs.History.{net, booked, final};
-ghost use Rattle.ledger.specs.Ledger.{Life, at_last, at_final};
-ghost use Rattle.ledger.specs.Questions.{cash_refusal};
+ghost use Rattle.ledger.specs.Ledger.{at_last, at_final};
 ghost use Rattle.reckoning.specs.Reckonings.{line, settled_told, place_told, month_told, month_line, cash_told};
-ghost use Rattle.reckoning.specs.Tellings.{month_of, months_of, cash_of, account_of, reckoned_of};
+ghost use Rattle.reckoning.specs.Tellings.{month_of, months_of, cash_of, account_of, reckoned};
 
 use iso::IsoMonth;
 use journal::{Journal, Statement};
@@ -105,7 +104,7 @@ fn write_month(text: &mut String, month: MonthLine) -> Result<(), AllocError>
 
 // What an account holds in a month.
 fn held<T: Terms>(journal: &Journal<T>, account: u32, month: u32) -> i128
-    requires { cash_refusal (state_of journal.now) account ≡ None }
+    requires { unknown journal.now account ≡ None }
     ensures { result ≡ held_in_month journal.now account month }
 {
     journal.held(account, month).unwrap_or(0)
@@ -119,7 +118,7 @@ fn month_line<T: Terms>(
     month: u32,
 ) -> MonthLine
     requires states { Stated journal.now account statement.now }
-    requires known { (cash_refusal (state_of journal.now) account ≡ None) × (month < 1200) }
+    requires known { (unknown journal.now account ≡ None) × (month < 1200) }
     ensures place { (result.account ≡ account) × (result.month ≡ month) }
     ensures bought { result.bought ≡ net (meaning_of journal.now) (state_of journal.now).made.month (history_of journal.now) account month }
     ensures holds { result.holds ≡ held_in_month journal.now account month }
@@ -143,7 +142,7 @@ fn tell_month<T: Terms>(
     month: u32,
 ) -> Result<(), AllocError>
     requires states { Stated journal.now account statement.now }
-    requires known { (cash_refusal (state_of journal.now) account ≡ None) × (month < 1200) }
+    requires known { (unknown journal.now account ≡ None) × (month < 1200) }
     ensures { IfOk result (λ u. string_bytes text.new ≡ string_bytes text.old ++ month_of journal.now account month) }
 {
     write_month(text, month_line(journal, statement, account, month))
@@ -157,7 +156,7 @@ fn tell_months<T: Terms>(
     account: u32,
 ) -> Result<(), AllocError>
     requires states { Stated journal.now account statement.now }
-    requires known { cash_refusal (state_of journal.now) account ≡ None }
+    requires known { unknown journal.now account ≡ None }
     ensures { IfOk result (λ u. string_bytes text.new ≡ string_bytes text.old ++ months_of journal.now account) }
 {
     for month in 0..1200 {
@@ -204,7 +203,7 @@ fn write_cash(text: &mut String, cash: CashLine) -> Result<(), AllocError>
 
 // What an account has in cash.
 fn cash_of<T: Terms>(journal: &Journal<T>, account: u32) -> i64
-    requires { cash_refusal (state_of journal.now) account ≡ None }
+    requires { unknown journal.now account ≡ None }
     ensures { result ≡ ((state_of journal.now).rows account).cash }
 {
     journal.book().cash(account).unwrap_or(0)
@@ -213,7 +212,7 @@ fn cash_of<T: Terms>(journal: &Journal<T>, account: u32) -> i64
 // An account's cash, by its statement.
 fn cash_line<T: Terms>(journal: &Journal<T>, statement: &Statement, account: u32) -> CashLine
     requires states { Stated journal.now account statement.now }
-    requires known { cash_refusal (state_of journal.now) account ≡ None }
+    requires known { unknown journal.now account ≡ None }
     ensures account { result.account ≡ account }
     ensures at_last { result.at_last ≡ at_last (meaning_of journal.now) (history_of journal.now) (state_of journal.now) account }
     ensures at_final { result.at_final ≡ at_final (meaning_of journal.now) (history_of journal.now) (state_of journal.now) account }
@@ -237,7 +236,7 @@ fn tell_cash<T: Terms>(
     account: u32,
 ) -> Result<(), AllocError>
     requires states { Stated journal.now account statement.now }
-    requires known { cash_refusal (state_of journal.now) account ≡ None }
+    requires known { unknown journal.now account ≡ None }
     ensures { IfOk result (λ u. string_bytes text.new ≡ string_bytes text.old ++ cash_of journal.now account) }
 {
     write_cash(text, cash_line(journal, statement, account))
@@ -251,7 +250,7 @@ fn tell_known<T: Terms>(
     account: u32,
 ) -> Result<(), AllocError>
     requires states { Stated journal.now account statement.now }
-    requires known { cash_refusal (state_of journal.now) account ≡ None }
+    requires known { unknown journal.now account ≡ None }
     ensures { IfOk result (λ u. string_bytes text.new ≡ string_bytes text.old ++ account_of journal.now account) }
 {
     tell_months(text, journal, statement, account)?;
@@ -265,8 +264,8 @@ pub fn tell_account<T: Terms>(
     journal: &Journal<T>,
     account: u32,
 ) -> Result<(), AllocError>
-    ensures text { IfOk result (λ u. string_bytes text.new ≡ string_bytes text.old ++ reckoned_of journal.now account) }
-    ensures law { ∥ Life (meaning_of journal.now) (history_of journal.now) (state_of journal.now) ∥₁ }
+    ensures text { IfOk result (λ u. string_bytes text.new ≡ string_bytes text.old ++ reckoned journal.now account) }
+    ensures law { ∥ Lives journal.now ∥₁ }
 {
     let Ok(statement) = journal.statement(account) else {
         return Ok(());

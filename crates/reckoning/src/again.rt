@@ -1,8 +1,6 @@
 // The calls of a journal, handed over once more as one list.
 ghost use Rattle.std.specs.Prelude.{◌≡◌, IfOk, IfSome, IfNone, IsSome, None};
-ghost use Rattle.journal.specs.Journals.{meaning_of, state_of, entries_of};
-ghost use Rattle.ledger.specs.Make.{make_refusal};
-ghost use Rattle.reckoning.specs.Again.{answer_number, differing, anew, Again};
+ghost use Rattle.reckoning.specs.Again.{answer_number, differing, refused, Differ, Same};
 
 use book::Book;
 use coded::ClassLine;
@@ -40,10 +38,10 @@ pub fn differing_answers<T: Terms>(
 ) -> Result<Option<usize>, AllocError>
 where
     T: Drop,
-    ensures made { IfOk result (λ o. IfSome o (λ n. make_refusal (T.meaning terms) (anew journal.now month lines.now) ≡ None)) }
-    ensures refused { IfOk result (λ o. IfNone o (IsSome (make_refusal (T.meaning terms) (anew journal.now month lines.now)))) }
-    ensures counts { IfOk result (λ o. IfSome o (λ n. ∥ Again (T.meaning terms) (anew journal.now month lines.now) (entries_of journal.now) n ∥₁)) }
-    ensures same { T.meaning terms ≡ meaning_of journal.now → month ≡ (state_of journal.now).made.month → IfOk result (λ o. IfSome o (λ n. n ≡ 0)) }
+    ensures made { IfOk result (λ o. IfSome o (λ n. refused journal.now terms month lines.now ≡ None)) }
+    ensures refused { IfOk result (λ o. IfNone o (IsSome (refused journal.now terms month lines.now))) }
+    ensures counts { IfOk result (λ o. IfSome o (Differ journal.now terms month lines.now)) }
+    ensures same { Same journal.now terms month → IfOk result (λ o. IfSome o (λ n. n ≡ 0)) }
 {
     let mut again = journal.entries().to_vec(heap)?;
     let accounts = journal.book().accounts();

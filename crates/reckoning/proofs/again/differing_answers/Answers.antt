@@ -27,6 +27,6 @@ returns-in-Ok-clause-counts g c =
     } ∣₁
 
 pub returns-in-Ok-clause-same : goal.returns-in-Ok-clause-same
-returns-in-Ok-clause-same g c terms month =
+returns-in-Ok-clause-same g c same =
     let j = c.args.journal.now in
-    none-differs (g.T.Terms.meaning c.args.terms) (meaning_of j) c.args.month c.args.lines.now (entries_of j) (state_of j) c.differing.result terms month (returns-in-Ok-clause-counts g c) j.lived
+    none-differs (g.T.Terms.meaning c.args.terms) (meaning_of j) c.args.month c.args.lines.now (entries_of j) (state_of j) c.differing.result same.meaning same.start (returns-in-Ok-clause-counts g c) j.lived
