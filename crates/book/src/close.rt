@@ -1,8 +1,8 @@
 // Close: the end of a day.
-ghost use Rattle.std.specs.Prelude.{◌≡◌, ℕ, ◌<◌, ◌≤◌, true, length, map, None, Some, Ok, cond, ◌&&◌, not, is_some, IfOk, MatchResult, unsigned_abs, slice_index_or};
+ghost use Rattle.std.specs.Prelude.{◌≡◌, ℕ, ◌<◌, ◌≤◌, true, length, map, pos, None, Some, Ok, cond, ◌&&◌, not, is_some, IfOk, MatchResult, unsigned_abs, slice_index_or};
 ghost use Rattle.book.specs.Books.{book_of, terms_of, refused, left, listed, GoesOn};
 ghost use Rattle.book.specs.Markets.{cents_in, market_of};
-ghost use Rattle.book.specs.Rows.{rows_of, CashFits, Known};
+ghost use Rattle.book.specs.Rows.{rows_of, row_carried, row_credited, CashFits, Flagged, Known};
 ghost use Rattle.book.specs.Stores.{meaning_in, state_in, terms_in, Ready};
 ghost use Rattle.day_table.specs.Table.{day_in, table_of};
 ghost use Rattle.ledger.specs.Calls.{refusal, done, after, all_rows, lots_fit, after_parts, newest, by_end, close_pay, today};
@@ -10,6 +10,7 @@ ghost use Rattle.ledger.specs.Questions.{list_after, written};
 ghost use Rattle.ledger.specs.Words.{all_below, from, reply, at};
 ghost use Rattle.ledger.specs.declared.call.Call.TheVariants.{Close};
 
+use crate::account::Account;
 use crate::accounts::{
     all_keep_limit, carry_all, close_all, pays_with_parts, variation_pays, write_lines,
 };
@@ -85,6 +86,35 @@ fn all_carried_prices(
     ensures repriced { (d n t : ℕ) → (market_of d n result).repriced t ≡ cond ((day_in next.now).tradable t) None (from (slice_index_or sources.now t None) None (market_of d n prices.now).repriced) }
 {
     array::from_fn(|class| carried_prices(day, next, prices, sources, class))
+}
+
+// The lots of each account go on to the next open day; where every class succeeds itself they stay where they are.
+fn carry_accounts(accounts: &mut [Account], day: &DayTable, sources: &[Option<u32>; 12])
+    requires known { Known day.now.classes sources.now }
+    requires day { (day.now.classes ≤ 12) × (Flagged day.now) }
+    requires keeps { (a : ℕ) → a < length accounts.old → all_below day.now.classes (λ c. lots_fit (after_parts (day_in day.now) (rows_of accounts.old a) c)) ≡ true }
+    requires stays { day.now.all_stay ≡ true → (a t : ℕ) → a < length accounts.old → from (slice_index_or sources.now t None) (pos 0) (after_parts (day_in day.now) (rows_of accounts.old a)) ≡ (rows_of accounts.old a).lots t }
+    ensures long { length accounts.new ≡ length accounts.old }
+    ensures rows { (a : ℕ) → a < length accounts.old → rows_of accounts.new a ≡ row_carried (day_in day.now) (λ t. slice_index_or sources.now t None) (rows_of accounts.old a) }
+{
+    if day.all_stay {
+        return;
+    }
+    carry_all(accounts, day, sources);
+}
+
+// Each account is paid, and its lots go on to the next open day.
+fn close_accounts(accounts: &mut [Account], pays: &[i64; 32], day: &DayTable, sources: &[Option<u32>; 12])
+    requires pays { (length accounts.old ≤ 32) × (CashFits accounts.old pays.now) }
+    requires known { Known day.now.classes sources.now }
+    requires day { (day.now.classes ≤ 12) × (Flagged day.now) }
+    requires keeps { (a : ℕ) → a < length accounts.old → all_below day.now.classes (λ c. lots_fit (after_parts (day_in day.now) (rows_of accounts.old a) c)) ≡ true }
+    requires stays { day.now.all_stay ≡ true → (a t : ℕ) → a < length accounts.old → from (slice_index_or sources.now t None) (pos 0) (after_parts (day_in day.now) (rows_of accounts.old a)) ≡ (rows_of accounts.old a).lots t }
+    ensures long { length accounts.new ≡ length accounts.old }
+    ensures rows { (a : ℕ) → a < length accounts.old → rows_of accounts.new a ≡ row_carried (day_in day.now) (λ t. slice_index_or sources.now t None) (row_credited (at pays.now a) (rows_of accounts.old a)) }
+{
+    close_all(accounts, pays);
+    carry_accounts(accounts, day, sources);
 }
 
 impl<T: Terms> Store<T> {
@@ -169,10 +199,7 @@ impl<T: Terms> Store<T> {
         let day = *self.day();
         let sources = day.sources();
         self.dated.go_to(day.next.unwrap_or(0));
-        close_all(&mut self.tables.accounts, pays);
-        if !day.all_stay {
-            carry_all(&mut self.tables.accounts, &day, &sources);
-        }
+        close_accounts(&mut self.tables.accounts, pays, &day, &sources);
         self.tables.prices = all_carried_prices(
             &day,
             self.dated.table(),

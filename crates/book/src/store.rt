@@ -2,7 +2,7 @@
 ghost use Rattle.std.specs.Prelude.{◌≡◌, ℕ, ℤ, ◌<◌, ◌≤◌, true, ◌+ℤ◌};
 ghost use Rattle.book.specs.Rows.{CashFits, Flagged, SmallDay};
 ghost use Rattle.book.specs.Stores.{meaning_in, state_in};
-ghost use Rattle.day_table.specs.Table.{day_in};
+ghost use Rattle.day_table.specs.Table.{day_in, table_of};
 ghost use Rattle.ledger.specs.Calls.{all_rows, cash_fits, known, today};
 ghost use Rattle.ledger.specs.State.{Row};
 ghost use Rattle.ledger.specs.Words.{at};
@@ -23,6 +23,7 @@ impl<T: Terms> Store<T> {
     /// What the terms say of the book's day.
     pub(crate) fn day(&self) -> &DayTable
         ensures table { result.now ≡ self.now.dated.table }
+        ensures read { result.now ≡ table_of (meaning_in self.now) (state_in self.now).market.day }
         ensures day { day_in result.now ≡ today (meaning_in self.now) (state_in self.now) }
         ensures twelve { result.now.classes ≤ 12 }
         ensures flagged { Flagged result.now }
