@@ -1,3 +1,4 @@
 pub mod Figures
-pub mod Lived
+pub mod Sums
 pub mod Statements
+pub mod Journals
