@@ -1,14 +1,16 @@
 -- What a journal keeps: a book over terms, and all its calls with their answers. Assumes nothing.
-use Rattle.std.specs.Prelude.{ℕ, min, List, [], ◌∷◌, ◌++◌, reverse, ℤ, Option, vec_capacity}
+use Rattle.std.specs.Prelude.{◌≡◌, ℕ, min, List, [], ◌∷◌, ◌++◌, reverse, ℤ, Option, vec_capacity}
 use Rattle.book.specs.Books.{terms_of as terms_of_book, book_of}
+use Rattle.coded.specs.declared.class_line.ClassLine.{ClassLine}
 use Rattle.journal.specs.Statements.{States}
 use Rattle.journal.specs.declared.journal.Journal.{Journal}
 use Rattle.journal.specs.declared.statement.Statement.{Statement}
 use Rattle.ledger.specs.Calls.{refusal, after}
 use Rattle.ledger.specs.History.{History}
 use Rattle.ledger.specs.Ledger.{Life, held}
+use Rattle.ledger.specs.Make.{made_of}
 use Rattle.ledger.specs.Questions.{list_after, cash_refusal}
-use Rattle.ledger.specs.State.{State}
+use Rattle.ledger.specs.State.{State, new_state}
 use Rattle.ledger.specs.declared.call.Call.{Call}
 use Rattle.ledger.specs.declared.entry.Entry.{Entry}
 use Rattle.ledger.specs.declared.fault.Fault.{Fault}
@@ -27,6 +29,10 @@ module _ {T : Type 0} {g : Ghosts T} where
   -- what its book holds
   abbrev pub state_of : Journal T g → State
   state_of j = book_of j.book
+
+  -- no lots, cash and prices yet, on the first open day of its month
+  abbrev pub IsNew : Journal T g → ℕ → ℕ → List ClassLine → Type 0
+  IsNew j month accounts lines = state_of j ≡ new_state (meaning_of j) (made_of month accounts lines)
 
   -- the calls and their answers, the first at the head, and the same as a history, the latest first
   abbrev pub entries_of : Journal T g → List Entry

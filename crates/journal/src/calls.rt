@@ -1,10 +1,8 @@
 // A journal's make, its reads and its calls.
-ghost use Rattle.std.specs.Prelude.{◌≡◌, ◌≤◌, [], length, reverse, IfOk, IfErr, Some, None, MatchResult};
-ghost use Rattle.book.specs.Books.{book_of, terms_of as terms_of_book};
-ghost use Rattle.journal.specs.Journals.{terms_of, meaning_of, state_of, entries_of, room_of, refused, left, listed, noted};
+ghost use Rattle.std.specs.Prelude.{◌≡◌, ◌≤◌, [], length, reverse, IfOk, IfErr, MatchResult};
+ghost use Rattle.book.specs.Books.{refused_make, unmade, book_of, terms_of as terms_of_book};
+ghost use Rattle.journal.specs.Journals.{terms_of, meaning_of, state_of, IsNew, entries_of, room_of, refused, left, listed, noted};
 ghost use Rattle.ledger.specs.Ledger.{Life};
-ghost use Rattle.ledger.specs.Make.{made_of, make_refusal};
-ghost use Rattle.ledger.specs.State.{new_state};
 ghost use Rattle.ledger.specs.Words.{reply};
 ghost use Rattle.std.specs.Result.{result_err};
 
@@ -35,11 +33,10 @@ impl<T: Terms> Journal<T> {
         accounts: u32,
         lines: &[ClassLine],
     ) -> Result<Journal<T>, NotMade<T>>
-        ensures made { IfOk result (λ j. make_refusal (T.meaning terms) (made_of month accounts lines.now) ≡ None) }
-        ensures state { IfOk result (λ j. state_of j ≡ new_state (T.meaning terms) (made_of month accounts lines.now)) }
+        ensures state { IfOk result (λ j. IsNew j month accounts lines.now) }
         ensures entries { IfOk result (λ j. entries_of j ≡ []) }
         ensures terms { MatchResult result (λ j. terms_of j ≡ terms) (λ e. e.terms ≡ terms) }
-        ensures refused { IfErr result (λ e. make_refusal (T.meaning terms) (made_of month accounts lines.now) ≡ Some e.fault) }
+        ensures refused { refused_make (T.meaning terms) month accounts lines.now ≡ unmade result }
     {
         let book = Book::make(terms, month, accounts, lines)?;
         Ok(Journal {
