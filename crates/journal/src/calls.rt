@@ -1,9 +1,8 @@
 // A journal's make, its reads and its calls.
 ghost use Rattle.std.specs.Prelude.{◌≡◌, ◌≤◌, [], length, reverse, IfOk, IfErr, MatchResult};
-ghost use Rattle.book.specs.Books.{refused_make, unmade, book_of, terms_of as terms_of_book};
-ghost use Rattle.journal.specs.Journals.{terms_of, meaning_of, state_of, IsNew, entries_of, room_of, refused, left, listed, noted};
+ghost use Rattle.book.specs.Books.{book_of, terms_of as terms_of_book, refused_make, unmade};
+ghost use Rattle.journal.specs.Journals.{terms_of, meaning_of, state_of, entries_of, room_of, IsNew, answer, left, listed, noted};
 ghost use Rattle.ledger.specs.Ledger.{Life};
-ghost use Rattle.ledger.specs.Words.{reply};
 ghost use Rattle.std.specs.Result.{result_err};
 
 use crate::journal::Journal;
@@ -70,7 +69,7 @@ impl<T: Terms> Journal<T> {
         call: Call,
         list: &mut [Payment; 32],
     ) -> Result<Result<(), Fault>, AllocError>
-        ensures answer { IfOk result (λ r. r ≡ reply (refused self.old call) tt) }
+        ensures answer { IfOk result (λ r. r ≡ answer self.old call) }
         ensures state { IfOk result (λ r. state_of self.new ≡ left self.old call) }
         ensures list { IfOk result (λ r. list.new ≡ listed self.old call list.old) }
         ensures entries { IfOk result (λ r. entries_of self.new ≡ noted self.old call) }

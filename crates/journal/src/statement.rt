@@ -1,8 +1,8 @@
 // An account's statement: the figures of the law of the ledger.
 ghost use Rattle.std.specs.Prelude.{◌≡◌, IfOk, IfErr, Some, None, slice_index_or};
 ghost use Rattle.history.specs.Told.{Told};
-ghost use Rattle.journal.specs.Journals.{meaning_of, state_of, history_of, unknown, held_in_month, Stated};
-ghost use Rattle.ledger.specs.Words.{reply, at};
+ghost use Rattle.journal.specs.Journals.{meaning_of, state_of, history_of, unknown, held_answer, Stated};
+ghost use Rattle.ledger.specs.Words.{at};
 
 use crate::figures::{at_final, at_last, held_total};
 use crate::journal::Journal;
@@ -44,7 +44,7 @@ impl Statement {
 impl<T: Terms> Journal<T> {
     /// What an account holds in a month: the sum of its lots in the classes that have the month on the book's day.
     pub fn held(&self, account: u32, month: u32) -> Result<i128, Fault>
-        ensures { result ≡ reply (unknown self.now account) (held_in_month self.now account month) }
+        ensures { result ≡ held_answer self.now account month }
     {
         self.book.cash(account)?;
         Ok(held_total(&self.book, account, month))
