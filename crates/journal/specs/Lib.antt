@@ -1,3 +1,3 @@
 pub mod Figures
-pub mod Lived
 pub mod Statements
+pub mod Journals

@@ -1,5 +1,7 @@
 #![tactic(auto)]
 // A book with the list of all its calls and answers, and the figures of the law of the ledger.
+mod calls;
+mod figures;
 mod journal;
 mod statement;
 mod sums;

@@ -1,10 +1,9 @@
 // Sums over all accounts of a book.
-ghost use Rattle.std.specs.Prelude.{◌≡◌, ℕ, ◌^◌, ◌<◌, ◌≤◌, length, None, nat_lt, unsigned_abs};
+ghost use Rattle.std.specs.Prelude.{◌≡◌, ℕ, ◌^◌, ◌<◌, ◌≤◌, length, unsigned_abs};
 ghost use Rattle.amounts.specs.SumsOfWhole.{sum_z};
-ghost use Rattle.book.specs.Replies.{reply};
-ghost use Rattle.book.specs.Tables.{view};
-ghost use Rattle.ledger.specs.Words.{ask, at};
-ghost use Rattle.ledger.specs.declared.fault.Fault.TheVariants.{UnknownClass};
+ghost use Rattle.book.specs.Books.{book_of, meaning_of};
+ghost use Rattle.journal.specs.Figures.{all_lots, class_refusal, all_cash};
+ghost use Rattle.ledger.specs.Words.{reply, at};
 
 use book::Book;
 use ledger::Fault;
@@ -25,7 +24,7 @@ pub(crate) fn total(parts: &[i128]) -> i128
 
 // An account's lots in a class; 0 where the book has not both.
 pub(crate) fn lots_in<T: Terms>(book: &Book<T>, account: u32, class: u32) -> i64
-    ensures is { account < (view book.now.tables).accounts → class < (T.meaning book.now.terms).classes → result ≡ (view book.now.tables).lots account class }
+    ensures is { account < (book_of book.now).made.accounts → class < (meaning_of book.now).classes → result ≡ ((book_of book.now).rows account).lots class }
     ensures bound { unsigned_abs result ≤ 2 ^ 31 }
 {
     match book.holding(account, class) {
@@ -36,7 +35,7 @@ pub(crate) fn lots_in<T: Terms>(book: &Book<T>, account: u32, class: u32) -> i64
 
 // An account's cash; 0 where the book does not have it.
 pub(crate) fn cash_of<T: Terms>(book: &Book<T>, account: u32) -> i128
-    ensures is { account < (view book.now.tables).accounts → result ≡ (view book.now.tables).cash account }
+    ensures is { account < (book_of book.now).made.accounts → result ≡ ((book_of book.now).rows account).cash }
     ensures bound { unsigned_abs result ≤ 2 ^ 63 }
 {
     match book.cash(account) {
@@ -47,8 +46,8 @@ pub(crate) fn cash_of<T: Terms>(book: &Book<T>, account: u32) -> i128
 
 // The lots of all accounts in a class.
 fn lots_total<T: Terms>(book: &Book<T>, class: u32) -> i128
-    requires { class < (T.meaning book.now.terms).classes }
-    ensures { result ≡ sum_z (view book.now.tables).accounts (λ a. (view book.now.tables).lots a class) }
+    requires { class < (meaning_of book.now).classes }
+    ensures { result ≡ all_lots (book_of book.now) class }
 {
     let lots: [i128; 32] = array::from_fn(|account| i128::from(lots_in(
         book,
@@ -58,9 +57,9 @@ fn lots_total<T: Terms>(book: &Book<T>, class: u32) -> i128
     total(&lots[..book.accounts() as usize])
 }
 
-// The lots of all accounts in a class of the terms.
+/// The lots of all accounts in a class of the terms.
 pub fn lots_sum<T: Terms>(book: &Book<T>, class: u32) -> Result<i128, Fault>
-    ensures { result ≡ reply (ask (nat_lt class (T.meaning book.now.terms).classes) UnknownClass None) (sum_z (view book.now.tables).accounts (λ a. (view book.now.tables).lots a class)) }
+    ensures { result ≡ reply (class_refusal (meaning_of book.now) class) (all_lots (book_of book.now) class) }
 {
     if class >= book.terms().classes() {
         return Err(Fault::UnknownClass);
@@ -68,9 +67,9 @@ pub fn lots_sum<T: Terms>(book: &Book<T>, class: u32) -> Result<i128, Fault>
     Ok(lots_total(book, class))
 }
 
-// The cash of all accounts.
+/// The cash of all accounts.
 pub fn cash_sum<T: Terms>(book: &Book<T>) -> i128
-    ensures { result ≡ sum_z (view book.now.tables).accounts (view book.now.tables).cash }
+    ensures { result ≡ all_cash (book_of book.now) }
 {
     let cash: [i128; 32] = array::from_fn(|account| cash_of(book, account as u32));
     total(&cash[..book.accounts() as usize])

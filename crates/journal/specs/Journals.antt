@@ -1,0 +1,65 @@
+-- What a journal keeps: a book over terms, and all its calls with their answers. Assumes nothing.
+use Rattle.std.specs.Prelude.{ℕ, List, reverse, ℤ, Option}
+use Rattle.book.specs.Books.{terms_of as terms_of_book, book_of}
+use Rattle.journal.specs.Statements.{States}
+use Rattle.journal.specs.declared.journal.Journal.{Journal}
+use Rattle.journal.specs.declared.statement.Statement.{Statement}
+use Rattle.ledger.specs.Calls.{refusal, after}
+use Rattle.ledger.specs.History.{History}
+use Rattle.ledger.specs.Ledger.{Life, held}
+use Rattle.ledger.specs.Questions.{list_after}
+use Rattle.ledger.specs.State.{State}
+use Rattle.ledger.specs.declared.call.Call.{Call}
+use Rattle.ledger.specs.declared.entry.Entry.{Entry}
+use Rattle.ledger.specs.declared.fault.Fault.{Fault}
+use Rattle.ledger.specs.declared.payment.Payment.{Payment}
+use Rattle.terms.specs.Meaning.{Meaning}
+use Rattle.terms.specs.declared.terms.Terms.{Ghosts}
+
+module _ {T : Type 0} {g : Ghosts T} where
+  -- the terms that its book was made over, and what they mean
+  abbrev pub terms_of : Journal T g → T
+  terms_of j = terms_of_book j.book
+
+  abbrev pub meaning_of : Journal T g → Meaning
+  meaning_of j = g.meaning (terms_of j)
+
+  -- what its book holds
+  abbrev pub state_of : Journal T g → State
+  state_of j = book_of j.book
+
+  -- the calls and their answers, the first at the head, and the same as a history, the latest first
+  abbrev pub entries_of : Journal T g → List Entry
+  entries_of j = j.entries.items
+
+  abbrev pub history_of : Journal T g → History
+  history_of j = reverse (entries_of j)
+
+  -- the history reached the book, and the law of the ledger held at the start and after each of its calls
+  abbrev pub Lives : Journal T g → Type 0
+  Lives j = Life (meaning_of j) (history_of j) (state_of j)
+
+  -- ---- a call
+
+  -- the question that is answered no, if one is; what the book holds afterwards; a payment list afterwards; what is noted
+  abbrev pub refused : Journal T g → Call → Option Fault
+  refused j call = refusal (meaning_of j) (state_of j) call
+
+  abbrev pub left : Journal T g → Call → State
+  left j call = after (meaning_of j) (state_of j) call
+
+  abbrev pub listed : Journal T g → Call → List Payment → List Payment
+  listed j call list = list_after (meaning_of j) (state_of j) call list
+
+  abbrev pub noted : Journal T g → Call → Entry
+  noted j call = record { call = call; answer = refused j call }
+
+  -- ---- an account
+
+  -- what it holds in a month, by the law
+  abbrev pub held_in_month : Journal T g → ℕ → ℕ → ℤ
+  held_in_month j a m = held (meaning_of j) (history_of j) (state_of j) a m
+
+  -- what the law says of it
+  abbrev pub Stated : Journal T g → ℕ → Statement → Type 0
+  Stated j a x = States (meaning_of j) (history_of j) (state_of j) a x
