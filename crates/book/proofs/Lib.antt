@@ -1,1 +1,13 @@
 pub mod Days
+pub mod Markets
+pub mod Afters
+pub mod Loops
+pub mod Accounts
+pub mod Lives
+pub mod ClassLines
+pub mod Places
+pub mod AccountRows
+pub mod Passes
+pub mod Sides
+pub mod Trades
+pub mod Fresh

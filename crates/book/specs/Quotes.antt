@@ -1,5 +1,5 @@
 -- What a close multiplies with. Assumes nothing.
-use Rattle.std.specs.Prelude.{◌≡◌, ℕ, ◌≤◌, cond, List, ℤ, pos, unsigned_abs, slice_index_or}
+use Rattle.std.specs.Prelude.{ℕ, ◌≤◌, cond, List, ℤ, pos, unsigned_abs, slice_index_or}
 use Rattle.amounts.specs.Amounts.{variation}
 use Rattle.book.specs.declared.quotes.Quote.{Quote}
 use Rattle.ledger.specs.State.{Market, Row}

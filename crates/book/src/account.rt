@@ -93,8 +93,19 @@ impl Account {
         ensures is { result ≡ quote_pay (quote_at quotes.now class) (row_of self.now) class }
         ensures bound { unsigned_abs result ≤ 178802682000000000 }
     {
-        let Quote { quantity, today, last } = quotes[class];
-        variation(quantity, today, self.lots[class], last, self.traded[class], self.cost[class])
+        let Quote {
+            quantity,
+            today,
+            last,
+        } = quotes[class];
+        variation(
+            quantity,
+            today,
+            self.lots[class],
+            last,
+            self.traded[class],
+            self.cost[class],
+        )
     }
 
     /// The variation margin of so many classes together.
@@ -118,7 +129,12 @@ impl Account {
         ensures bound { unsigned_abs result ≤ 1788000000000 }
     {
         if day.is_part(class, part) {
-            price_move(day.quantity[part], self.lots[class], newest[part], newest[class])
+            price_move(
+                day.quantity[part],
+                self.lots[class],
+                newest[part],
+                newest[class],
+            )
         } else {
             0
         }
@@ -240,16 +256,16 @@ impl Account {
         self.cost = [0; 12];
     }
 
-    // The lots of a class that succeeds another one, or none.
-    fn carried(&self, day: &DayTable, source: Option<u32>) -> i32
-        requires known { (c : ℕ) → source ≡ Some c → c < day.now.classes }
+    // The lots of a class on the next open day: those of the class that it succeeds, or none.
+    fn carried(&self, day: &DayTable, sources: &[Option<u32>; 12], class: usize) -> i32
+        requires known { (class < 12) × (Known day.now.classes sources.now) }
         requires day { (day.now.classes ≤ 12) × (Flagged day.now) }
         requires keeps { all_below day.now.classes (λ c. lots_fit (after_parts (day_in day.now) (row_of self.now) c)) ≡ true }
-        ensures is { result ≡ from source (pos 0) (after_parts (day_in day.now) (row_of self.now)) }
+        ensures is { result ≡ from (slice_index_or sources.now class None) (pos 0) (after_parts (day_in day.now) (row_of self.now)) }
         ensures bound { unsigned_abs result ≤ 1000 }
     {
-        match source {
-            Some(class) => self.after_parts(day, class as usize),
+        match sources[class] {
+            Some(source) => self.after_parts(day, source as usize),
             None => 0,
         }
     }
@@ -262,7 +278,7 @@ impl Account {
         ensures is { (t : ℕ) → at result t ≡ from (slice_index_or sources.now t None) (pos 0) (after_parts (day_in day.now) (row_of self.now)) }
         ensures bound { (t : ℕ) → unsigned_abs (at result t) ≤ 1000 }
     {
-        array::from_fn(|class| self.carried(day, sources[class]))
+        array::from_fn(|class| self.carried(day, sources, class))
     }
 
     /// Its lots go on to the next open day: to their parts, and then to the classes that succeed.

@@ -45,7 +45,14 @@ fn take(accounts: &mut [Account], account: u32, class: u32, lots: i32, price: i3
 }
 
 /// Lots of a class go from the seller to the buyer, at a price.
-pub(crate) fn exchange(accounts: &mut [Account], buyer: u32, seller: u32, class: u32, lots: i32, price: i32)
+pub(crate) fn exchange(
+    accounts: &mut [Account],
+    buyer: u32,
+    seller: u32,
+    class: u32,
+    lots: i32,
+    price: i32,
+)
     requires known { (buyer < length accounts.old) × ((seller < length accounts.old) × (class < 12)) }
     requires apart { buyer ≡ seller → ⊥ }
     requires small { (unsigned_abs lots ≤ 1000) × (unsigned_abs price ≤ 100000) }
@@ -60,16 +67,50 @@ pub(crate) fn exchange(accounts: &mut [Account], buyer: u32, seller: u32, class:
 
 // ---- payments
 
+// What one account is paid where its lots in a class are settled.
+fn settle_pay_at(
+    accounts: &[Account],
+    class: u32,
+    quantity: u32,
+    price: i32,
+    last: i32,
+    account: usize,
+) -> i64
+    requires known { (class < 12) × (quantity ≤ 8940) }
+    requires small { (unsigned_abs price ≤ 100000) × (unsigned_abs last ≤ 100000) }
+    ensures { account < length accounts.now → result ≡ final_payment quantity ((rows_of accounts.now account).lots class) price last }
+{
+    match accounts.get(account) {
+        Some(here) => here.settle_pay(class, quantity, price, last),
+        None => 0,
+    }
+}
+
 /// What each account is paid where its lots in a class are settled, and 0 past the last account.
-pub(crate) fn settle_pays(accounts: &[Account], class: u32, quantity: u32, price: i32, last: i32) -> [i64; 32]
+pub(crate) fn settle_pays(
+    accounts: &[Account],
+    class: u32,
+    quantity: u32,
+    price: i32,
+    last: i32,
+) -> [i64; 32]
     requires known { (class < 12) × (quantity ≤ 8940) }
     requires small { (unsigned_abs price ≤ 100000) × (unsigned_abs last ≤ 100000) }
     ensures { (a : ℕ) → a < length accounts.now → a < 32 → at result a ≡ final_payment quantity ((rows_of accounts.now a).lots class) price last }
 {
-    array::from_fn(|account| match accounts.get(account) {
-        Some(account) => account.settle_pay(class, quantity, price, last),
+    array::from_fn(|account| settle_pay_at(accounts, class, quantity, price, last, account))
+}
+
+// What one account is paid as variation margin.
+fn variation_at(accounts: &[Account], quotes: &[Quote; 12], classes: u32, account: usize) -> i64
+    requires { (classes ≤ 12) × (SmallQuotes quotes.now) }
+    ensures is { account < length accounts.now → result ≡ sum_z classes (λ c. quote_pay (quote_at quotes.now c) (rows_of accounts.now account) c) }
+    ensures bound { unsigned_abs result ≤ 2145632184000000000 }
+{
+    match accounts.get(account) {
+        Some(here) => here.variation(quotes, classes),
         None => 0,
-    })
+    }
 }
 
 /// What each account is paid as variation margin, and 0 past the last account.
@@ -78,14 +119,17 @@ pub(crate) fn variation_pays(accounts: &[Account], quotes: &[Quote; 12], classes
     ensures is { (a : ℕ) → a < length accounts.now → a < 32 → at result a ≡ sum_z classes (λ c. quote_pay (quote_at quotes.now c) (rows_of accounts.now a) c) }
     ensures bound { (a : ℕ) → unsigned_abs (at result a) ≤ 2145632184000000000 }
 {
-    array::from_fn(|account| match accounts.get(account) {
-        Some(account) => account.variation(quotes, classes),
-        None => 0,
-    })
+    array::from_fn(|account| variation_at(accounts, quotes, classes, account))
 }
 
 // One account's payment with what it is paid for parts.
-fn with_parts(accounts: &[Account], pays: &[i64; 32], day: &DayTable, newest: &[i32; 12], account: usize) -> i64
+fn with_parts(
+    accounts: &[Account],
+    pays: &[i64; 32],
+    day: &DayTable,
+    newest: &[i32; 12],
+    account: usize,
+) -> i64
     requires known { (account < 32) × (day.now.classes ≤ 12) }
     requires small { (SmallDay day.now) × (SmallCents newest.now) }
     requires bound { (a : ℕ) → unsigned_abs (at pays.now a) ≤ 2145632184000000000 }
@@ -98,7 +142,12 @@ fn with_parts(accounts: &[Account], pays: &[i64; 32], day: &DayTable, newest: &[
 }
 
 /// Payments with what each account is paid for the parts.
-pub(crate) fn pays_with_parts(accounts: &[Account], pays: &[i64; 32], day: &DayTable, newest: &[i32; 12]) -> [i64; 32]
+pub(crate) fn pays_with_parts(
+    accounts: &[Account],
+    pays: &[i64; 32],
+    day: &DayTable,
+    newest: &[i32; 12],
+) -> [i64; 32]
     requires known { day.now.classes ≤ 12 }
     requires small { (SmallDay day.now) × (SmallCents newest.now) }
     requires bound { (a : ℕ) → unsigned_abs (at pays.now a) ≤ 2145632184000000000 }

@@ -88,7 +88,14 @@ fn gain(today: i32, lots: i32, last: i32, traded: i32) -> i64
 }
 
 /// The variation margin of lots in a class.
-pub(crate) fn variation(quantity: u32, today: i32, lots: i32, last: i32, traded: i32, cost: i64) -> i64
+pub(crate) fn variation(
+    quantity: u32,
+    today: i32,
+    lots: i32,
+    last: i32,
+    traded: i32,
+    cost: i64,
+) -> i64
     requires quantity { quantity ≤ 8940 }
     requires prices { (unsigned_abs today ≤ 100000) × (unsigned_abs last ≤ 100000) }
     requires lots { (unsigned_abs lots ≤ 1000) × (unsigned_abs traded ≤ 100000000) }

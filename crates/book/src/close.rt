@@ -39,7 +39,13 @@ fn is_priced(day: &DayTable, prices: &[Prices; 12], class: usize) -> bool
 }
 
 // The prices of a class that succeeds another one, on the next day.
-fn carried_prices(day: &DayTable, next: &DayTable, prices: &[Prices; 12], source: Option<u32>, class: usize) -> Prices
+fn carried_prices(
+    day: &DayTable,
+    next: &DayTable,
+    prices: &[Prices; 12],
+    source: Option<u32>,
+    class: usize,
+) -> Prices
     requires class { class < 12 }
     requires source { (c : ℕ) → source ≡ Some c → c < 12 }
     ensures last { (d n : ℕ) → cents_in result.last ≡ from source None (newest (day_in day.now) (market_of d n prices.now)) }
@@ -62,7 +68,12 @@ fn carried_prices(day: &DayTable, next: &DayTable, prices: &[Prices; 12], source
 }
 
 // The prices of all classes on the next day, where each class succeeds one of the sources.
-fn all_carried_prices(day: &DayTable, next: &DayTable, prices: &[Prices; 12], sources: &[Option<u32>; 12]) -> [Prices; 12]
+fn all_carried_prices(
+    day: &DayTable,
+    next: &DayTable,
+    prices: &[Prices; 12],
+    sources: &[Option<u32>; 12],
+) -> [Prices; 12]
     requires { (t c : ℕ) → slice_index_or sources.now t None ≡ Some c → c < 12 }
     ensures last { (d n t : ℕ) → (market_of d n result).last t ≡ from (slice_index_or sources.now t None) None (newest (day_in day.now) (market_of d n prices.now)) }
     ensures today { (d n t : ℕ) → (market_of d n result).today t ≡ None }
@@ -147,7 +158,12 @@ impl<T: Terms> Store<T> {
         if !day.all_stay {
             carry_all(&mut self.tables.accounts, &day, &sources);
         }
-        self.tables.prices = all_carried_prices(&day, self.dated.table(), &self.tables.prices, &sources);
+        self.tables.prices = all_carried_prices(
+            &day,
+            self.dated.table(),
+            &self.tables.prices,
+            &sources,
+        );
     }
 
     fn close(&mut self, list: &mut [Payment]) -> Result<(), Fault>

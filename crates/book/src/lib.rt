@@ -10,6 +10,7 @@ mod make;
 mod margins;
 mod mark;
 mod prices;
+mod pricing;
 mod quotes;
 mod reads;
 mod rows;

@@ -8,6 +8,7 @@ ghost use Rattle.ledger.specs.declared.call.Call.TheVariants.{Mark, Reprice};
 
 use crate::book::Book;
 use crate::prices::Price;
+use crate::pricing::{mark, reprice};
 use crate::store::Store;
 use ledger::Fault;
 use terms::Terms;
@@ -31,7 +32,7 @@ impl<T: Terms> Store<T> {
         let Some(price) = Price::new(price) else {
             return Err(Fault::PriceOutOfRange);
         };
-        self.tables.prices[class as usize].today = Some(price);
+        mark(&mut self.tables.prices, class, price);
         Ok(())
     }
 
@@ -56,7 +57,7 @@ impl<T: Terms> Store<T> {
         let Some(price) = Price::new(price) else {
             return Err(Fault::PriceOutOfRange);
         };
-        self.tables.prices[class as usize].repriced = Some(price);
+        reprice(&mut self.tables.prices, class, price);
         Ok(())
     }
 }

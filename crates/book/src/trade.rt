@@ -2,7 +2,7 @@
 ghost use Rattle.std.specs.Prelude.{◌≡◌, ◌<◌, ◌≤◌, true, not, ◌&&◌, ◌==◌, nat_lt, pos, ◌+ℤ◌, ◌-ℤ◌, neg_ℤ, Ok, unsigned_abs};
 ghost use Rattle.book.specs.Books.{book_of, terms_of, refused, left, GoesOn};
 ghost use Rattle.book.specs.Stores.{meaning_in, state_in, terms_in, Ready};
-ghost use Rattle.ledger.specs.Calls.{refusal, done, after};
+ghost use Rattle.ledger.specs.Calls.{refusal, done, after, lots_fit};
 ghost use Rattle.ledger.specs.Words.{reply, within};
 ghost use Rattle.ledger.specs.declared.call.Call.TheVariants.{Trade};
 
@@ -15,7 +15,7 @@ use ledger::Fault;
 use terms::Terms;
 
 // Whether lots of one trade lie in the range.
-fn lots_fit(lots: i32) -> bool
+fn may_trade_lots(lots: i32) -> bool
     ensures is { result ≡ within (pos 1) (pos 1000) lots }
     ensures size { result ≡ true → unsigned_abs lots ≤ 1000 }
 {
@@ -23,6 +23,15 @@ fn lots_fit(lots: i32) -> bool
 }
 
 impl<T: Terms> Store<T> {
+    // Whether an account may take lots of a class; they are negative for a sale.
+    fn may_take(&self, account: u32, class: u32, lots: i32) -> bool
+        requires known { (account < (state_in self.now).made.accounts) × (class < 12) }
+        requires small { unsigned_abs lots ≤ 1000 }
+        ensures { result ≡ lots_fit (((state_in self.now).rows account).lots class +ℤ lots) }
+    {
+        self.tables.accounts[account as usize].may_take(class, lots)
+    }
+
     // The questions of a trade: the first that is answered no.
     fn may_trade(
         &self,
@@ -47,7 +56,7 @@ impl<T: Terms> Store<T> {
         if !self.is_tradable(class) {
             return Err(Fault::NotTradable);
         }
-        if !lots_fit(lots) {
+        if !may_trade_lots(lots) {
             return Err(Fault::LotsOutOfRange);
         }
         if Price::new(price).is_none() {
@@ -56,11 +65,11 @@ impl<T: Terms> Store<T> {
         if self.tables.accepted >= 100_000 {
             return Err(Fault::TooManyTrades);
         }
-        if !self.tables.accounts[buyer as usize].may_take(class, lots) {
+        if !self.may_take(buyer, class, lots) {
             return Err(Fault::HoldingOutOfRange);
         }
         let sold = negative(lots);
-        if !self.tables.accounts[seller as usize].may_take(class, sold) {
+        if !self.may_take(seller, class, sold) {
             return Err(Fault::HoldingOutOfRange);
         }
         Ok(())

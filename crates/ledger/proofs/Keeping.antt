@@ -27,7 +27,7 @@ share-size true false n h = grind (arith, ints)
 share-size false true n h = grind (arith, ints)
 share-size false false n h = grind (arith, ints)
 
-price-size : (p : ℤ) → price_fits p ≡ true → nat_abs p ≤ 100000
+pub price-size : (p : ℤ) → price_fits p ≡ true → nat_abs p ≤ 100000
 price-size p h = grind (arith, ints)
 
 -- one trade more in a figure

@@ -27,6 +27,7 @@ pub record MayTrade (w : Meaning) (s : State) (buyer seller c : ℕ) (n p : ℤ)
   pub lots : within (pos 1) (pos 1000) n ≡ true
   pub price : price_fits p ≡ true
   pub few : s.market.accepted < 100000
+  pub fit : (lots_fit ((s.rows buyer).lots c +ℤ n) ≡ true) × (lots_fit ((s.rows seller).lots c -ℤ n) ≡ true)
 
 pub may-trade : (w : Meaning) (s : State) (buyer seller c : ℕ) (n p : ℤ) → refusal w s (Trade buyer seller c n p) ≡ None → MayTrade w s buyer seller c n p
 may-trade w s buyer seller c n p q =
@@ -36,6 +37,7 @@ may-trade w s buyer seller c n p q =
     let q4 = ask-none (within (pos 1) (pos 1000) n) _ _ q3.1 in
     let q5 = ask-none (price_fits p) _ _ q4.1 in
     let q6 = ask-none (ltb s.market.accepted 100000) _ _ q5.1 in
+    let q7 = ask-none (lots_fit ((s.rows buyer).lots c +ℤ n) && lots_fit ((s.rows seller).lots c -ℤ n)) _ _ q6.1 in
     let both = and_parts (known s buyer) (known s seller) q1.0 in
     record {
       buys = ltb-true buyer s.made.accounts both.0;
@@ -45,6 +47,7 @@ may-trade w s buyer seller c n p q =
       lots = q4.0;
       price = q5.0;
       few = ltb-true s.market.accepted 100000 q6.0;
+      fit = and_parts (lots_fit ((s.rows buyer).lots c +ℤ n)) (lots_fit ((s.rows seller).lots c -ℤ n)) q7.0;
     }
 
 pub settle-priced : (w : Meaning) (s : State) (f : ℤ) (room : ℕ) → refusal w s (Settle f room) ≡ None → s.market.last w.settling ≡ None → ⊥

@@ -1,0 +1,36 @@
+-- What a call leaves, by its answer. Assumes nothing.
+use Rattle.std.proofs.Common.{◌≡◌, ℕ, true, not, ◌&&◌, ltb, is_some, ℤ, Some, None, Ok, Err, Option, Result, is_ok, is_err, sym, refl, ap, ◌∙◌}
+use Rattle.ledger.specs.Calls.{refusal, done, after, today, price_fits}
+use Rattle.ledger.specs.State.{State}
+use Rattle.ledger.specs.Words.{ask, unless, reply}
+use Rattle.ledger.specs.declared.call.Call.{Call}
+use Rattle.ledger.specs.declared.call.Call.TheVariants.{Mark, Reprice}
+use Rattle.ledger.specs.declared.fault.Fault.{Fault}
+use Rattle.ledger.specs.declared.fault.Fault.TheVariants.{NotTradable, PriceOutOfRange, NotRepriceable}
+use Rattle.std.proofs.lemmas.Bool.{false≢true}
+use Rattle.terms.specs.Meaning.{Meaning}
+
+-- an accepted reply refuses nothing
+pub replied : {A : Type 0} (o : Option Fault) (x y : A) → reply o x ≡ Ok y → o ≡ None
+replied None x y e = refl
+replied (Some f) x y e = absurd (false≢true (ap is_ok e))
+
+abbrev err_or : {A : Type 0} → Fault → Result A Fault → Option Fault
+err_or g (Ok x) = Some g
+err_or g (Err f) = Some f
+
+pub replied-err : {A : Type 0} (o : Option Fault) (x : A) (f : Fault) → reply o x ≡ Err f → o ≡ Some f
+replied-err None x f e = absurd (false≢true (ap is_err e))
+replied-err (Some g) x f e = ap (err_or g) e
+
+pub accepted : (w : Meaning) (s : State) (call : Call) → refusal w s call ≡ None → after w s call ≡ done w s call
+accepted w s call e = ap (λ o. unless o (done w s call) s) e
+
+pub refused : (w : Meaning) (s : State) (call : Call) (f : Fault) → refusal w s call ≡ Some f → after w s call ≡ s
+refused w s call f e = ap (λ o. unless o (done w s call) s) e
+
+pub mark-accepted : (w : Meaning) (s : State) (c : ℕ) (p : ℤ) → (today w s).tradable c ≡ true → price_fits p ≡ true → refusal w s (Mark c p) ≡ None
+mark-accepted w s c p t f = λ i. ask (t i) NotTradable (ask (f i) PriceOutOfRange None)
+
+pub reprice-accepted : (w : Meaning) (s : State) (c : ℕ) (p : ℤ) → (ltb c w.classes && (not ((today w s).tradable c) && is_some (s.market.last c))) ≡ true → price_fits p ≡ true → refusal w s (Reprice c p) ≡ None
+reprice-accepted w s c p t f = λ i. ask (t i) NotRepriceable (ask (f i) PriceOutOfRange None)

@@ -1,0 +1,19 @@
+use Rattle.std.proofs.Common.{arith, lit<, w64}
+use Rattle.std.proofs.lemmas.Int.{to_z-of_z}
+use Rattle.book.proofs.Loops.{sum_fits, sum-turn, sum-end}
+use Rattle.book.proofs.account.Account.class_parts.Goals as goal
+
+pub overflow_add-sum : goal.overflow_add-sum
+overflow_add-sum c =
+    let r = c.part_pay-sum in
+    sum_fits w64 _ 1788000000000 c.loop-part.part 12 (lit< tt) (omega arith) _ r.result _ c.loop-part.invariant (to_z-of_z w64 _ (record { sfits = r.type_inv })) r.ensures.is r.ensures.bound
+
+pub loop-part-preserved : goal.loop-part-preserved
+loop-part-preserved c =
+    let r = c.part_pay-sum in
+    sum-turn w64 _ 1788000000000 c.loop-part.part 12 (lit< tt) (omega arith) _ r.result _ c.loop-part.invariant (to_z-of_z w64 _ (record { sfits = r.type_inv })) r.ensures.is r.ensures.bound
+
+pub returns : goal.returns
+returns c =
+    let s = sum-end _ 1788000000000 c.loop-part.part c.args.day.now.classes 12 _ (omega arith) c.requires.known.1 c.loop-part.invariant in
+    record { is = s.is; bound = s.bound }

@@ -1,0 +1,19 @@
+use Rattle.std.proofs.Common.{arith, lit<, w32}
+use Rattle.std.proofs.lemmas.Int.{to_z-of_z}
+use Rattle.book.proofs.Loops.{sum_fits, sum-turn, sum-end}
+use Rattle.book.proofs.account.Account.gets.Goals as goal
+
+pub overflow_add-sum : goal.overflow_add-sum
+overflow_add-sum c =
+    let r = c.gives-sum in
+    sum_fits w32 _ 1000 c.loop-class.class 12 (lit< tt) (omega arith) _ r.result _ c.loop-class.invariant (to_z-of_z w32 _ (record { sfits = r.type_inv })) r.ensures.is r.ensures.bound
+
+pub loop-class-preserved : goal.loop-class-preserved
+loop-class-preserved c =
+    let r = c.gives-sum in
+    sum-turn w32 _ 1000 c.loop-class.class 12 (lit< tt) (omega arith) _ r.result _ c.loop-class.invariant (to_z-of_z w32 _ (record { sfits = r.type_inv })) r.ensures.is r.ensures.bound
+
+pub returns : goal.returns
+returns c =
+    let s = sum-end _ 1000 c.loop-class.class c.args.day.now.classes 12 _ (omega arith) c.requires c.loop-class.invariant in
+    record { is = s.is; bound = s.bound }

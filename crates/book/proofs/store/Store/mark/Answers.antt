@@ -1,0 +1,19 @@
+use Rattle.std.proofs.Common.{◌≡◌, ℤ, true, Some, sym, ap, ◌∙◌, to_z, of_z, w32}
+use Rattle.std.proofs.lemmas.Int.{to_z-of_z}
+use Rattle.book.proofs.Afters.{accepted, mark-accepted}
+use Rattle.book.specs.Stores.{meaning_in, state_in}
+use Rattle.ledger.specs.Calls.{price_fits}
+use Rattle.ledger.specs.Words.{put}
+use Rattle.ledger.specs.declared.call.Call.TheVariants.{Mark}
+use Rattle.book.proofs.store.Store.mark.Goals as goal
+
+pub returns-clause-after : goal.returns-clause-after
+returns-clause-after g c =
+    let s = c.args.self.now in
+    let b = state_in s in
+    let p = to_z-of_z w32 c.args.price c.ranges.price in
+    let f : price_fits c.args.price ≡ true = sym (c.in-Some.ensures.fits ∙ ap price_fits p) in
+    let t = sym c.if-not-is_tradable.ensures.is in
+    let v : c.in-Some.price.cents ≡ c.args.price = c.in-Some.ensures.value ∙ p in
+    (λ i. record b { market = (c.mark.ensures b.market.day b.market.accepted ∙ ap (λ (x : ℤ). record b.market { today = put b.market.today c.args.class (Some x) }) v) i })
+    ∙ sym (accepted (meaning_in s) b (Mark c.args.class c.args.price) (mark-accepted (meaning_in s) b c.args.class c.args.price t f))
