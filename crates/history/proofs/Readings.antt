@@ -4,9 +4,9 @@ use Rattle.amounts.specs.SumsOfWhole.{if_z}
 use Rattle.history.specs.Told.{Told}
 use Rattle.history.specs.declared.reading.Reading.{Reading}
 use Rattle.ledger.proofs.Figures.{plus-zero}
-use Rattle.ledger.specs.History.{History, day_after, net, since, costs, booked, final, dealt, first_of}
-use Rattle.ledger.specs.State.{next_day}
-use Rattle.ledger.specs.Words.{at}
+use Rattle.ledger.specs.History.{History, day_after, net, since, costs, booked, final, first_of}
+use Rattle.terms.specs.Day.{next_day}
+use Rattle.ledger.specs.Words.{at, share}
 use Rattle.ledger.specs.declared.call.Call.{Call}
 use Rattle.ledger.specs.declared.call.Call.TheVariants.{Trade, Mark, Reprice, Settle, Close}
 use Rattle.ledger.specs.declared.fault.Fault.{Fault}
@@ -17,15 +17,15 @@ module _ (w : Meaning) (start : ℕ) (h : History) (a : ℕ) (k l : Reading) (t 
   counted : l.calls ≡ suc (length h)
   counted = omega (arith, t.calls)
 
-  pub told-trade : (buyer seller c : ℕ) (n p : ℤ) → l.day ≡ k.day → l.finals ≡ k.finals → l.booked ≡ k.booked → ((m : ℕ) → m < 1200 → at l.nets m ≡ at k.nets m +ℤ if_z (has (w.on k.day c) m) (dealt buyer seller n a)) → ((i : ℕ) → i < 12 → at l.since i ≡ at k.since i +ℤ if_z (eqb i c) (dealt buyer seller n a)) → l.costs ≡ k.costs +ℤ pos (class_quantity w (w.on k.day c)) *ℤ (dealt buyer seller n a *ℤ p) → Told w start (record { call = Trade buyer seller c n p; answer = None } ∷ h) a l
+  pub told-trade : (buyer seller c : ℕ) (n p : ℤ) → l.day ≡ k.day → l.finals ≡ k.finals → l.booked ≡ k.booked → ((m : ℕ) → m < 1200 → at l.nets m ≡ at k.nets m +ℤ if_z (has (w.on k.day c) m) (share buyer seller n a)) → ((i : ℕ) → i < 12 → at l.since i ≡ at k.since i +ℤ if_z (eqb i c) (share buyer seller n a)) → l.costs ≡ k.costs +ℤ pos (class_quantity w (w.on k.day c)) *ℤ (share buyer seller n a *ℤ p) → Told w start (record { call = Trade buyer seller c n p; answer = None } ∷ h) a l
   unfolding day_after net since costs booked final
   told-trade buyer seller c n p day finals booked nets since costs = record {
     calls = counted;
     day = day ∙ t.day;
-    nets = λ m lt. nets m lt ∙ (λ i. t.nets m lt i +ℤ if_z (has (w.on (t.day i) c) m) (dealt buyer seller n a));
+    nets = λ m lt. nets m lt ∙ (λ i. t.nets m lt i +ℤ if_z (has (w.on (t.day i) c) m) (share buyer seller n a));
     finals = λ m lt. ap (λ xs. get_or xs m None) finals ∙ t.finals m lt;
-    since = λ j lt. since j lt ∙ (λ i. t.since j lt i +ℤ if_z (eqb j c) (dealt buyer seller n a));
-    costs = costs ∙ (λ i. t.costs i +ℤ pos (class_quantity w (w.on (t.day i) c)) *ℤ (dealt buyer seller n a *ℤ p));
+    since = λ j lt. since j lt ∙ (λ i. t.since j lt i +ℤ if_z (eqb j c) (share buyer seller n a));
+    costs = costs ∙ (λ i. t.costs i +ℤ pos (class_quantity w (w.on (t.day i) c)) *ℤ (share buyer seller n a *ℤ p));
     booked = booked ∙ t.booked;
   }
 

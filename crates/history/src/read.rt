@@ -3,19 +3,19 @@ ghost use Rattle.std.specs.Prelude.{◌≡◌, ℕ, ◌+◌, ◌^◌, ◌<◌, �
 ghost use Rattle.amounts.specs.SumsOfWhole.{if_z};
 ghost use Rattle.history.specs.Told.{Told};
 ghost use Rattle.ledger.specs.History.{History, first_of};
-ghost use Rattle.ledger.specs.State.{next_day};
 ghost use Rattle.ledger.specs.Words.{at};
+ghost use Rattle.terms.specs.Day.{next_day};
 ghost use Rattle.terms.specs.Meaning.{has, class_quantity};
 
 use crate::reading::Reading;
 use crate::steps::{
-    at_cost, classes_with, dealt, finals_with, months_with, more_cost, next_day, no_finals,
-    no_lots, no_lots_by_class,
+    add_at, add_in, at_cost, dealt, more_cost, next_day, no_finals, no_lots, no_lots_by_class,
+    settle_in,
 };
 use ledger::{Call, Entry};
 use terms::{Terms, TermsOpenDays};
 
-// How many calls a reading can take.
+/// How many calls a reading can take.
 pub const MOST_CALLS: usize = 1_000_000_000;
 
 impl Reading {
@@ -48,16 +48,10 @@ impl Reading {
     {
         let quantity = terms::quantity_of(terms, self.day, class);
         let here = terms.class_on(self.day, class);
-        let cost = at_cost(quantity, dealt, price);
-        *self = Reading {
-            calls: self.calls + 1,
-            day: self.day,
-            nets: months_with(&self.nets, here, dealt),
-            finals: self.finals,
-            since: classes_with(&self.since, class, dealt),
-            costs: more_cost(self.costs, cost),
-            booked: self.booked,
-        };
+        self.calls += 1;
+        add_in(&mut self.nets, here, dealt);
+        add_at(&mut self.since, class, dealt);
+        self.costs = more_cost(self.costs, at_cost(quantity, dealt, price));
     }
 }
 
@@ -69,7 +63,7 @@ impl Reading {
         ensures finals { (m : ℕ) → m < 1200 → slice_index_or self.new.finals m None ≡ first_of (cond (has ((T.meaning terms.now).on self.old.day (T.meaning terms.now).settling) m) (Some price) None) (slice_index_or self.old.finals m None) }
     {
         let here = terms.class_on(self.day, terms.settling());
-        self.finals = finals_with(&self.finals, here, price);
+        settle_in(&mut self.finals, here, price);
         self.calls += 1;
     }
 
@@ -129,8 +123,8 @@ impl Reading {
     }
 }
 
-// What a list of calls and answers, in their order, tells of an account of a book that was made in a month: none where there
-// are too many.
+/// What a list of calls and answers, in their order, tells of an account of a book that was made in a month: none where
+/// there are too many.
 pub fn read_account<T: Terms>(
     terms: &T,
     month: u32,

@@ -1,9 +1,9 @@
 // What a reading of a history has told so far.
 ghost use Rattle.history.specs.Small.{SmallLots, SmallCost};
 
-// How far a reading has come: how many calls were read, and the day after them. What they tell of one account: its accepted
-// buys less sells by month, and by class since the last accepted close; all its accepted trades at cost, and those of them
-// before that close. The final price of each month that is finally settled.
+/// How far a reading has come: how many calls were read, and the day after them. What they tell of one account: its accepted
+/// buys less sells by month, and by class since the last accepted close; all its accepted trades at cost, and those of them
+/// before that close. The final price of each month that is finally settled.
 #[derive(Clone, Copy)]
 pub struct Reading {
     pub calls: u32,

@@ -1,13 +1,13 @@
 // What one call adds to a reading.
-ghost use Rattle.std.specs.Prelude.{◌≡◌, ℕ, ◌^◌, ◌<◌, ◌≤◌, Some, None, cond, pos, ◌+ℤ◌, ◌*ℤ◌, ◌==◌, slice_index_or, unsigned_abs};
+ghost use Rattle.std.specs.Prelude.{◌≡◌, ℕ, ◌+◌, ◌^◌, ◌<◌, ◌≤◌, Some, None, cond, pos, ◌+ℤ◌, ◌*ℤ◌, ◌==◌, slice_index_or, unsigned_abs};
 ghost use Rattle.amounts.specs.SumsOfWhole.{if_z};
-ghost use Rattle.ledger.specs.History.{dealt, first_of};
-ghost use Rattle.ledger.specs.State.{next_day};
-ghost use Rattle.ledger.specs.Words.{at};
-ghost use Rattle.terms.specs.Meaning.{has};
+ghost use Rattle.history.specs.Small.{MonthsIn, RoomFor};
+ghost use Rattle.ledger.specs.History.{first_of};
+ghost use Rattle.ledger.specs.Words.{at, share};
+ghost use Rattle.terms.specs.Day.{next_day};
+ghost use Rattle.terms.specs.Meaning.{has, in_months};
 
-use std::array;
-use terms::{ClassTerms, Terms, TermsOpenDays};
+use terms::{ClassTerms, Months, Terms, TermsOpenDays};
 
 // Lots where a test passes, else none.
 fn lots_if(test: bool, lots: i64) -> i64
@@ -18,24 +18,11 @@ fn lots_if(test: bool, lots: i64) -> i64
 
 // What an account deals in a trade: the lots where it buys, less the lots where it sells.
 pub(crate) fn dealt(buyer: u32, seller: u32, lots: i32, account: u32) -> i64
-    ensures is { result ≡ dealt buyer seller lots account }
+    ensures is { result ≡ share buyer seller lots account }
     ensures bound { unsigned_abs result ≤ 2 ^ 31 }
 {
     let lots = i64::from(lots);
     lots_if(account == buyer, lots) + lots_if(account == seller, -lots)
-}
-
-pub(crate) fn more_lots(lots: i64, more: i64) -> i64
-    requires { (unsigned_abs lots ≤ 2 ^ 62) × (unsigned_abs more ≤ 2 ^ 31) }
-    ensures { result ≡ lots +ℤ more }
-{
-    lots + more
-}
-
-pub(crate) fn has(class: Option<ClassTerms>, month: u32) -> bool
-    ensures { result ≡ has class month }
-{
-    class.is_some_and(|class| class.months.contains(month))
 }
 
 // What lots cost at a price, for one unit of quantity.
@@ -68,61 +55,56 @@ pub(crate) fn next_day<T: Terms>(terms: &T, day: u32) -> u32
     calendars::next_after(&TermsOpenDays { terms }, day).unwrap_or(0)
 }
 
-// A month with what was dealt in a class, if the class has the month.
-fn month_with(net: i64, class: Option<ClassTerms>, month: u32, dealt: i64) -> i64
-    requires { (unsigned_abs net ≤ 2 ^ 62) × (unsigned_abs dealt ≤ 2 ^ 31) }
-    ensures { result ≡ net +ℤ if_z (has class month) dealt }
+// Adds lots in each of a run of months.
+fn add_in_months(nets: &mut [i64; 1200], months: Months, lots: i64)
+    requires months { months.first + months.count ≤ 1200 }
+    requires room { RoomFor 1200 nets.old lots }
+    ensures { (m : ℕ) → at nets.new m ≡ at nets.old m +ℤ if_z (in_months (Some months) m) lots }
 {
-    more_lots(net, lots_if(has(class, month), dealt))
-}
-
-// The months with what was dealt in those of a class.
-pub(crate) fn months_with(nets: &[i64; 1200], class: Option<ClassTerms>, dealt: i64) -> [i64; 1200]
-    requires { ((m : ℕ) → m < 1200 → unsigned_abs (at nets.now m) ≤ 2 ^ 62) × (unsigned_abs dealt ≤ 2 ^ 31) }
-    ensures { (m : ℕ) → m < 1200 → at result m ≡ at nets.now m +ℤ if_z (has class m) dealt }
-{
-    array::from_fn(|month| month_with(nets[month], class, month as u32, dealt))
-}
-
-// The classes with what was dealt in one.
-pub(crate) fn classes_with(since: &[i64; 12], class: u32, dealt: i64) -> [i64; 12]
-    requires { ((c : ℕ) → c < 12 → unsigned_abs (at since.now c) ≤ 2 ^ 62) × (unsigned_abs dealt ≤ 2 ^ 31) }
-    ensures { (c : ℕ) → c < 12 → at result c ≡ at since.now c +ℤ if_z (c == class) dealt }
-{
-    array::from_fn(|here| {
-        if here == class as usize {
-            more_lots(since[here], dealt)
-        } else {
-            since[here]
-        }
-    })
-}
-
-// The final price of a month, where a class is settled at a price.
-fn final_with(
-    settled: Option<i32>,
-    class: Option<ClassTerms>,
-    month: u32,
-    price: i32,
-) -> Option<i32>
-    ensures { result ≡ first_of (cond (has class month) (Some price) None) settled }
-{
-    if has(class, month) {
-        Some(price)
-    } else {
-        settled
+    for month in months.first..months.first + months.count {
+        nets[month as usize] += lots;
     }
 }
 
-// The final prices, where a class is settled at a price.
-pub(crate) fn finals_with(
-    finals: &[Option<i32>; 1200],
-    class: Option<ClassTerms>,
-    price: i32,
-) -> [Option<i32>; 1200]
-    ensures { (m : ℕ) → m < 1200 → slice_index_or result m None ≡ first_of (cond (has class m) (Some price) None) (slice_index_or finals.now m None) }
+// Adds lots in each month of a class.
+pub(crate) fn add_in(nets: &mut [i64; 1200], class: Option<ClassTerms>, lots: i64)
+    requires months { MonthsIn class }
+    requires room { RoomFor 1200 nets.old lots }
+    ensures { (m : ℕ) → at nets.new m ≡ at nets.old m +ℤ if_z (has class m) lots }
 {
-    array::from_fn(|month| final_with(finals[month], class, month as u32, price))
+    if let Some(class) = class {
+        add_in_months(nets, class.months, lots);
+    }
+}
+
+// Adds lots in a class, by number; nothing for a number past the table.
+pub(crate) fn add_at(since: &mut [i64; 12], class: u32, lots: i64)
+    requires { RoomFor 12 since.old lots }
+    ensures { (c : ℕ) → c < 12 → at since.new c ≡ at since.old c +ℤ if_z (c == class) lots }
+{
+    if class < 12 {
+        since[class as usize] += lots;
+    }
+}
+
+// Gives each month of a class a final price.
+pub(crate) fn settle_in(finals: &mut [Option<i32>; 1200], class: Option<ClassTerms>, price: i32)
+    requires { MonthsIn class }
+    ensures { (m : ℕ) → slice_index_or finals.new m None ≡ first_of (cond (has class m) (Some price) None) (slice_index_or finals.old m None) }
+{
+    if let Some(class) = class {
+        settle_months(finals, class.months, price);
+    }
+}
+
+// Gives each of a run of months a final price.
+fn settle_months(finals: &mut [Option<i32>; 1200], months: Months, price: i32)
+    requires { months.first + months.count ≤ 1200 }
+    ensures { (m : ℕ) → slice_index_or finals.new m None ≡ first_of (cond (in_months (Some months) m) (Some price) None) (slice_index_or finals.old m None) }
+{
+    for month in months.first..months.first + months.count {
+        finals[month as usize] = Some(price);
+    }
 }
 
 pub(crate) fn no_lots() -> [i64; 1200]

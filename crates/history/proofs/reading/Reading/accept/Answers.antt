@@ -1,7 +1,7 @@
 use Rattle.std.proofs.Common.{◌≡◌, cond, eqb, ◌∷◌, get_or, pos, ◌+ℤ◌, ◌*ℤ◌, Some, None, rules, sym, ap, ◌∙◌, subst, arith, w32, w64, to_z, of_z}
 use Rattle.amounts.specs.SumsOfWhole.{if_z}
-use Rattle.ledger.specs.History.{dealt, first_of}
-use Rattle.ledger.specs.Words.{at}
+use Rattle.ledger.specs.History.{first_of}
+use Rattle.ledger.specs.Words.{at, share}
 use Rattle.std.proofs.lemmas.Int.{to_z-of_z}
 use Rattle.terms.specs.Meaning.{has, class_quantity}
 use Rattle.history.proofs.Readings.{told-trade, told-settle, told-close, told-mark, told-reprice}
@@ -13,7 +13,7 @@ pub returns-in-Trade-clause-told : goal.returns-in-Trade-clause-told
 returns-in-Trade-clause-told g c start h t =
     let k = c.args.self.now in
     let r = c.trade.ensures in
-    let d : to_z w64 (of_z w64 c.dealt.result) ≡ dealt c.in-Trade.buyer c.in-Trade.seller c.in-Trade.lots c.args.account = grind (arith, to_z-of_z) in
+    let d : to_z w64 (of_z w64 c.dealt.result) ≡ share c.in-Trade.buyer c.in-Trade.seller c.in-Trade.lots c.args.account = grind (arith, to_z-of_z) in
     let p : to_z w32 (of_z w32 c.in-Trade.price) ≡ c.in-Trade.price = search (rules, to_z-of_z) in
     let w = g.T.Terms.meaning c.args.terms.now in
     subst (λ (q : Call). Told w start (record { call = q; answer = None } ∷ h) c.args.account c.trade.new.self) (sym c.in-Trade.is) (told-trade w start h c.args.account k c.trade.new.self t r.same.0 c.in-Trade.buyer c.in-Trade.seller c.in-Trade.class c.in-Trade.lots c.in-Trade.price r.same.1 r.same.2 r.same.3 (λ m h. r.nets m h ∙ ap (λ d. at k.nets m +ℤ if_z (has (w.on k.day c.in-Trade.class) m) d) d) (λ i h. r.since i h ∙ ap (λ d. at k.since i +ℤ if_z (eqb i c.in-Trade.class) d) d) (r.costs ∙ (λ i. k.costs +ℤ pos (class_quantity w (w.on k.day c.in-Trade.class)) *ℤ (d i *ℤ p i))))
