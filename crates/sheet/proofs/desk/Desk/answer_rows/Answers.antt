@@ -26,8 +26,12 @@ loop-line-preserved g c =
     let same = c.loop-line.invariant.1 in
     let is = c.request-asked.ensures.request in
     let now = c.in_ok-reply.ensures in
-    let told = c.in_ok-write_reply.ensures (reply w (state_at e) asked) (λ i. Tells (reply (g.T.Terms.meaning (same i)) (state_at e) (is i)) c.in_ok-reply.reply u.list) in
-    ?
+    let as_asked = subst (λ (r : Result Request SheetFault). Tells (reply (meaning_at e) (state_at e) r) c.in_ok-reply.reply u.list) is now.told in
+    let told = subst (λ terms. Tells (reply (g.T.Terms.meaning terms) (state_at e) asked) c.in_ok-reply.reply u.list) same as_asked in
+    let goes_on = now.state ∙ (λ i. left (g.T.Terms.meaning (same i)) (state_at e) (is i)) in
+    let adds = now.entries ∙ (λ i. entries_at e ++ noted (g.T.Terms.meaning (same i)) (state_at e) (is i)) in
+    let written = c.in_ok-write_reply.ensures (reply w (state_at e) asked) told ∙ ap (λ n. string_bytes c.loop-line.text ++ reply_text n (reply w (state_at e) asked)) (c.line.ensures ∙ taken.count) in
+    (one_row w c.args.product places (string_bytes c.args.text.now) (string_bytes c.loop-line.text) (string_bytes c.write_reply.new.text) (lines_read c.args.head.rows + 1) (lines_read c.loop-line.rows + 1) (lines_read next + 1) (state_at d) (state_at e) (state_at u) (entries_at d) (entries_at e) (entries_at u) (lines_left c.args.head.rows) (lines_left c.loop-line.rows) (lines_left next) line c.loop-line.invariant.0 taken.takes written (ap (λ n. n + 1) taken.count) goes_on adds, c.reply.ensures.terms ∙ same)
 
 pub returns-clause-text : goal.returns-clause-text
 returns-clause-text g c = text_done _ _ _ _ _ _ _ _ _ _ _ _ _ c.loop-line.invariant.0 c.in_default.ensures.takes.0
