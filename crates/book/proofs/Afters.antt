@@ -1,12 +1,12 @@
 -- What a call leaves, by its answer. Assumes nothing.
-use Rattle.std.proofs.Common.{◌≡◌, ℕ, true, not, ◌&&◌, ltb, is_some, ℤ, Some, None, Ok, Err, Option, Result, is_ok, is_err, sym, refl, ap, ◌∙◌}
-use Rattle.ledger.specs.Calls.{refusal, done, after, today, price_fits}
+use Rattle.std.proofs.Common.{◌≡◌, ℕ, Bool, true, not, ◌&&◌, leb, ltb, is_some, ℤ, Some, None, Ok, Err, Option, Result, is_ok, is_err, sym, refl, ap, ◌∙◌}
+use Rattle.ledger.specs.Calls.{refusal, done, after, today, price_fits, cash_fits, all_rows, row_settled}
 use Rattle.ledger.specs.State.{State}
 use Rattle.ledger.specs.Words.{ask, unless, reply}
 use Rattle.ledger.specs.declared.call.Call.{Call}
-use Rattle.ledger.specs.declared.call.Call.TheVariants.{Mark, Reprice}
+use Rattle.ledger.specs.declared.call.Call.TheVariants.{Mark, Reprice, Settle}
 use Rattle.ledger.specs.declared.fault.Fault.{Fault}
-use Rattle.ledger.specs.declared.fault.Fault.TheVariants.{NotTradable, PriceOutOfRange, NotRepriceable}
+use Rattle.ledger.specs.declared.fault.Fault.TheVariants.{NotTradable, PriceOutOfRange, NotRepriceable, ListTooShort, NothingToSettle, CashOutOfRange}
 use Rattle.std.proofs.lemmas.Bool.{false≢true}
 use Rattle.terms.specs.Meaning.{Meaning}
 
@@ -34,3 +34,6 @@ mark-accepted w s c p t f = λ i. ask (t i) NotTradable (ask (f i) PriceOutOfRan
 
 pub reprice-accepted : (w : Meaning) (s : State) (c : ℕ) (p : ℤ) → (ltb c w.classes && (not ((today w s).tradable c) && is_some (s.market.last c))) ≡ true → price_fits p ≡ true → refusal w s (Reprice c p) ≡ None
 reprice-accepted w s c p t f = λ i. ask (t i) NotRepriceable (ask (f i) PriceOutOfRange None)
+
+pub settle-asked : (w : Meaning) (s : State) (f : ℤ) (room : ℕ) (b : Bool) → leb s.made.accounts room ≡ true → is_some (s.market.last w.settling) ≡ true → price_fits f ≡ true → all_rows s (λ r. cash_fits (row_settled (today w s) s.market f r).cash) ≡ b → refusal w s (Settle f room) ≡ ask b CashOutOfRange None
+settle-asked w s f room b e1 e2 e3 e4 = λ i. ask (e1 i) ListTooShort (ask (e2 i) NothingToSettle (ask (e3 i) PriceOutOfRange (ask (e4 i) CashOutOfRange None)))

@@ -11,3 +11,5 @@ pub mod Passes
 pub mod Sides
 pub mod Trades
 pub mod Fresh
+pub mod Settles
+pub mod Replays

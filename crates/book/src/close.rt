@@ -12,7 +12,7 @@ ghost use Rattle.ledger.specs.Words.{all_below, from, reply, at};
 ghost use Rattle.ledger.specs.declared.call.Call.TheVariants.{Close};
 
 use crate::accounts::{
-    all_keep_limit, carry_all, close_all, may_pay, pays_with_parts, variation_pays, write_lines,
+    all_keep_limit, carry_all, close_all, pays_with_parts, variation_pays, write_lines,
 };
 use crate::book::Book;
 use crate::prices::{Price, Prices, UNPRICED};
@@ -95,7 +95,7 @@ impl<T: Terms> Store<T> {
     fn is_unsettled(&self) -> bool
         ensures { result ≡ ((today (meaning_in self.now) (state_in self.now)).taken_over && is_some ((state_in self.now).market.last (meaning_in self.now).settling)) }
     {
-        self.day().taken_over && self.tables.prices[self.settling() as usize].last.is_some()
+        self.day().taken_over && self.settling_price().is_some()
     }
 
     // Whether every account stays within the limit after the parts; on a day without parts it does.
@@ -175,7 +175,7 @@ impl<T: Terms> Store<T> {
     {
         self.may_close(list.len())?;
         let pays = self.close_pays();
-        if !may_pay(&self.tables.accounts, &pays) {
+        if !self.may_pay(&pays) {
             return Err(Fault::CashOutOfRange);
         }
         write_lines(self.tables.accounts.len() as u32, &pays, list);

@@ -54,7 +54,8 @@ impl Price {
 
     /// The cents of a price, or none.
     pub(crate) fn cents(price: Option<Price>) -> Option<i32>
-        ensures { result ≡ cents_in price }
+        ensures is { result ≡ cents_in price }
+        ensures small { IfSome result (λ cents. unsigned_abs cents ≤ 100000) }
     {
         match price {
             Some(price) => Some(price.cents),

@@ -1,5 +1,5 @@
 // Settle: the final payment of the settling class.
-ghost use Rattle.std.specs.Prelude.{◌≡◌, ℕ, ◌<◌, ◌≤◌, length, None, unsigned_abs};
+ghost use Rattle.std.specs.Prelude.{◌≡◌, ℕ, ℤ, ◌<◌, ◌≤◌, Some, length, None, IfOk, IfSome, MatchResult, unsigned_abs};
 ghost use Rattle.book.specs.Books.{book_of, terms_of, refused, left, listed, GoesOn};
 ghost use Rattle.book.specs.Rows.{CashFits};
 ghost use Rattle.book.specs.Stores.{meaning_in, state_in, terms_in, Ready};
@@ -8,7 +8,7 @@ ghost use Rattle.ledger.specs.Questions.{list_after, written};
 ghost use Rattle.ledger.specs.Words.{reply, at};
 ghost use Rattle.ledger.specs.declared.call.Call.TheVariants.{Settle};
 
-use crate::accounts::{may_pay, settle_all, settle_pays, write_lines};
+use crate::accounts::{settle_all, settle_pays, write_lines};
 use crate::book::Book;
 use crate::prices::Price;
 use crate::pricing::settle;
@@ -25,20 +25,46 @@ impl<T: Terms> Store<T> {
         self.day().settling
     }
 
+    // The last price of the settling class, in cents.
+    pub(crate) fn settling_price(&self) -> Option<i32>
+        ensures is { result ≡ (state_in self.now).market.last (meaning_in self.now).settling }
+        ensures small { IfSome result (λ cents. unsigned_abs cents ≤ 100000) }
+    {
+        Price::cents(self.tables.prices[self.settling() as usize].last)
+    }
+
     // What each account is paid at a final price, where the settling class has a last price.
-    fn settle_pays(&self, price: Price, last: Price) -> [i64; 32]
-        requires { (state_in self.now).market.last (meaning_in self.now).settling ≡ Some last.cents }
-        ensures { (a : ℕ) → a < (state_in self.now).made.accounts → at result a ≡ settle_pay (today (meaning_in self.now) (state_in self.now)) (state_in self.now).market price.cents ((state_in self.now).rows a) }
+    fn settle_pays(&self, price: i32, last: i32) -> [i64; 32]
+        requires small { (unsigned_abs price ≤ 100000) × (unsigned_abs last ≤ 100000) }
+        requires last { (state_in self.now).market.last (meaning_in self.now).settling ≡ Some last }
+        ensures { (a : ℕ) → a < (state_in self.now).made.accounts → at result a ≡ settle_pay (today (meaning_in self.now) (state_in self.now)) (state_in self.now).market price ((state_in self.now).rows a) }
     {
         let class = self.settling();
         let quantity = self.day().quantity_of(class);
-        settle_pays(
-            &self.tables.accounts,
-            class,
-            quantity,
-            price.cents,
-            last.cents,
-        )
+        settle_pays(&self.tables.accounts, class, quantity, price, last)
+    }
+
+    // What each account is paid, where no question is answered no.
+    fn may_settle(&self, price: i32, room: usize) -> Result<[i64; 32], Fault>
+        ensures answer { MatchResult result (λ pays. refusal (meaning_in self.now) (state_in self.now) (Settle price room) ≡ None) (λ f. refusal (meaning_in self.now) (state_in self.now) (Settle price room) ≡ Some f) }
+        ensures pays { IfOk result (λ pays. (a : ℕ) → a < (state_in self.now).made.accounts → at pays a ≡ settle_pay (today (meaning_in self.now) (state_in self.now)) (state_in self.now).market price ((state_in self.now).rows a)) }
+        ensures fits { IfOk result (λ pays. CashFits self.now.tables.accounts.items pays) }
+        ensures room { IfOk result (λ pays. (state_in self.now).made.accounts ≤ room) }
+    {
+        if self.tables.accounts.len() > room {
+            return Err(Fault::ListTooShort);
+        }
+        let Some(last) = self.settling_price() else {
+            return Err(Fault::NothingToSettle);
+        };
+        let Some(price) = Price::new(price) else {
+            return Err(Fault::PriceOutOfRange);
+        };
+        let pays = self.settle_pays(price.cents, last);
+        if !self.may_pay(&pays) {
+            return Err(Fault::CashOutOfRange);
+        }
+        Ok(pays)
     }
 
     // The settling class is paid out and emptied, where all questions were answered yes.
@@ -59,19 +85,7 @@ impl<T: Terms> Store<T> {
         ensures list { list.new ≡ list_after (meaning_in self.old) (state_in self.old) (Settle price (length list.old)) list.old }
         ensures terms { terms_in self.new ≡ terms_in self.old }
     {
-        if self.tables.accounts.len() > list.len() {
-            return Err(Fault::ListTooShort);
-        }
-        let Some(last) = self.tables.prices[self.settling() as usize].last else {
-            return Err(Fault::NothingToSettle);
-        };
-        let Some(price) = Price::new(price) else {
-            return Err(Fault::PriceOutOfRange);
-        };
-        let pays = self.settle_pays(price, last);
-        if !may_pay(&self.tables.accounts, &pays) {
-            return Err(Fault::CashOutOfRange);
-        }
+        let pays = self.may_settle(price, list.len())?;
         write_lines(self.tables.accounts.len() as u32, &pays, list);
         self.pay_out(&pays);
         Ok(())

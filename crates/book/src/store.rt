@@ -1,10 +1,13 @@
 // Terms on the day of a book, and its tables.
-ghost use Rattle.std.specs.Prelude.{◌≡◌, ◌≤◌};
-ghost use Rattle.book.specs.Rows.{Flagged, SmallDay};
+ghost use Rattle.std.specs.Prelude.{◌≡◌, ℕ, ℤ, ◌<◌, ◌≤◌, true, ◌+ℤ◌};
+ghost use Rattle.book.specs.Rows.{CashFits, Flagged, SmallDay};
 ghost use Rattle.book.specs.Stores.{meaning_in, state_in};
 ghost use Rattle.day_table.specs.Table.{day_in};
-ghost use Rattle.ledger.specs.Calls.{known, today};
+ghost use Rattle.ledger.specs.Calls.{all_rows, cash_fits, known, today};
+ghost use Rattle.ledger.specs.State.{Row};
+ghost use Rattle.ledger.specs.Words.{at};
 
+use crate::accounts::may_pay;
 use crate::tables::Tables;
 use day_table::{DatedTerms, DayTable};
 use terms::Terms;
@@ -26,6 +29,14 @@ impl<T: Terms> Store<T> {
         ensures small { SmallDay result.now }
     {
         self.dated.table()
+    }
+
+    /// Whether every account's cash stays in range with these payments.
+    pub(crate) fn may_pay(&self, pays: &[i64; 32]) -> bool
+        ensures is { (f : Row → ℤ) → ((a : ℕ) → a < (state_in self.now).made.accounts → at pays.now a ≡ f ((state_in self.now).rows a)) → result ≡ all_rows (state_in self.now) (λ r. cash_fits (r.cash +ℤ f r)) }
+        ensures fits { result ≡ true → CashFits self.now.tables.accounts.items pays.now }
+    {
+        may_pay(&self.tables.accounts, pays)
     }
 
     /// Whether the book has an account.
