@@ -1,11 +1,13 @@
 -- The bench's figures, by the definitions that the contracts of the code use. Assumes nothing.
-use Rattle.std.specs.Prelude.{◌≡◌, ℕ, true, cond, ℤ, pos, negsuc, Some, None, Option, ◌==◌}
+use Rattle.std.specs.Prelude.{◌≡◌, ℕ, true, [], cond, ℤ, pos, negsuc, Some, None, Option, ◌==◌}
 use Rattle.amounts.specs.Amounts.{class_margin}
 use Rattle.amounts.specs.SumsOfWhole.{if_z}
 use Rattle.calendars.specs.Calendars.{weekdays}
 use Rattle.figures.specs.Products.{baseload_terms}
-use Rattle.ledger.specs.Calls.{parts_pay, settle_pay}
-use Rattle.ledger.specs.State.{State, quantity_now}
+use Rattle.ledger.specs.Calls.{today, parts_pay, paid}
+use Rattle.ledger.specs.Make.{made_of}
+use Rattle.ledger.specs.State.{State, nil_row, quantity_now}
+use Rattle.ledger.specs.declared.call.Call.TheVariants.{Settle}
 use Rattle.power.specs.Hours.{baseload, peakload}
 use Rattle.terms.specs.Meaning.{Meaning, has_some_part, successor, class_quantity}
 use Rattle.wheat.specs.Wheat.{wheat}
@@ -20,16 +22,9 @@ weekday_wheat = wheat weekdays
 -- two accounts on a day; account 0 holds so many lots of one class, with last prices, day's prices and repricings
 abbrev pub holder : ℕ → ℕ → ℤ → (ℕ → Option ℤ) → (ℕ → Option ℤ) → (ℕ → Option ℤ) → State
 holder day class lots last today repriced = record {
-  day = day;
-  accounts = 2;
-  accepted = 1;
-  lots = λ a c. if_z (a == 0) (if_z (c == class) lots);
-  traded = λ a c. pos 0;
-  cost = λ a c. pos 0;
-  cash = λ a. pos 0;
-  last = last;
-  today = today;
-  repriced = repriced;
+  made = made_of 98 2 [];
+  market = record { day = day; accepted = 1; last = last; today = today; repriced = repriced };
+  rows = λ a. record nil_row { lots = λ c. if_z (a == 0) (if_z (c == class) lots) };
 }
 
 abbrev pub only : ℕ → ℤ → ℕ → Option ℤ
@@ -58,10 +53,10 @@ pub record Figures : Type 0 where
   pub last-of-y01 : has_some_part (weekday_baseload.on 3282 7) ≡ true
   pub last-of-t01 : successor (weekday_wheat.on 3054 0) ≡ Some 5
   -- the cascading pays 8,400
-  pub parts : parts_pay weekday_baseload cascading 0 ≡ pos 8400
+  pub parts : parts_pay (today weekday_baseload cascading) cascading.market (cascading.rows 0) ≡ pos 8400
   -- price −100, interval 500, quantity 720, two lots; price 3, interval 1, quantity 50, one lot
   pub margin_below : class_margin (negsuc 99) 500 720 (pos 2) ≡ negsuc 7199
   pub margin_rounded : class_margin (pos 3) 1 50 (pos 1) ≡ negsuc 0
   -- the final settlement at 6,500 goes by the last price, and April has 720 hours
   pub april : quantity_now weekday_baseload settling 10 ≡ 720
-  pub settled : settle_pay weekday_baseload settling (pos 6500) 0 ≡ negsuc 1079999
+  pub settled : paid weekday_baseload settling (Settle (pos 6500) 2) 0 ≡ negsuc 1079999

@@ -1,20 +1,18 @@
 -- The law of the ledger for the products: books of Baseload, Peakload and wheat over any calendar. Assumes nothing.
-use Rattle.std.specs.Prelude.{◌≡◌, ℕ, Bool, true, false, List, None}
-use Rattle.book.specs.TablesLaw.{ReachedTables, Life}
-use Rattle.book.specs.Tables.{made_tables}
-use Rattle.book.specs.declared.tables.Tables.{Tables}
-use Rattle.coded.specs.declared.class_line.ClassLine.{ClassLine}
+use Rattle.std.specs.Prelude.{◌≡◌, ℕ, Bool, true, false, None}
 use Rattle.ledger.specs.History.{History}
+use Rattle.ledger.specs.Ledger.{Reached, Life}
 use Rattle.ledger.specs.Make.{make_refusal}
+use Rattle.ledger.specs.State.{Made, State}
 use Rattle.power.specs.Hours.{baseload, peakload}
 use Rattle.power.specs.Power.{power}
 use Rattle.terms.specs.Meaning.{Meaning}
 use Rattle.wheat.specs.Wheat.{wheat}
 
--- after any accepted make and any history, the law of the ledger holds of a book over these terms
+-- after any accepted make and any history, the law of the ledger holds of a book over these terms, at the start and after
+-- each call
 abbrev pub LawHolds : Meaning → Type 0
-LawHolds w =
-    (month accounts : ℕ) (lines : List ClassLine) → make_refusal w month accounts lines ≡ None → (h : History) (t : Tables) → ReachedTables w (made_tables w month accounts lines) h t → Life w month accounts lines h t
+LawHolds w = (m : Made) → make_refusal w m ≡ None → (h : History) (s : State) → Reached w m h s → Life w h s
 
 abbrev pub baseload_terms : (ℕ → Bool) → Meaning
 baseload_terms opens = power opens baseload true

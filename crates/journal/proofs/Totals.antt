@@ -1,9 +1,15 @@
 -- The sum of the first numbers of a row. Assumes nothing.
-use Rattle.std.proofs.Common.{◌≡◌, ℕ, ◌<◌, ◌≤◌, List, length, take, ℤ, pos, nat_abs, Some, None, Option, unwrap_or, refl, sym, ap, ◌∙◌, subst, arith}
+use Rattle.std.proofs.Common.{◌≡◌, ℕ, ◌<◌, ◌≤◌, Bool, true, ◌&&◌, leb, List, length, take, ℤ, pos, nat_abs, Some, None, Option, unwrap_or, refl, sym, ap, ◌∙◌, subst, arith}
 use Rattle.amounts.proofs.Sums.{sum_same}
 use Rattle.amounts.specs.SumsOfWhole.{sum_z}
+use Rattle.book.proofs.Lives.{lived-made}
+use Rattle.ledger.proofs.Tests.{ask-none}
+use Rattle.ledger.specs.Ledger.{Lived}
+use Rattle.ledger.specs.State.{State}
 use Rattle.ledger.specs.Words.{at, or_zero}
+use Rattle.std.proofs.lemmas.Bool.{leb-true}
 use Rattle.std.proofs.lemmas.List.{get_or-take, length-take}
+use Rattle.terms.specs.Meaning.{Meaning}
 
 pub few : (n : ℕ) (xs : List ℤ) → n ≤ 1200 → length (take n xs) ≤ 1200
 few n xs h = omega (arith, length-take n xs)
@@ -22,3 +28,12 @@ sum-of n xs f h each =
 pub zero-or : (o : Option ℤ) → unwrap_or o (pos 0) ≡ or_zero o
 zero-or None = refl
 zero-or (Some p) = refl
+
+and-right : (a b : Bool) → (a && b) ≡ true → b ≡ true
+and-right a b e = search arith
+
+-- a book has at most 32 accounts
+pub accounts-few : (w : Meaning) (s : State) → ∥ Lived w s ∥₁ → s.made.accounts ≤ 32
+accounts-few w s lived =
+    let asked = (ask-none (leb 2 s.made.accounts && leb s.made.accounts 32) _ _ (lived-made w s lived)).0 in
+    leb-true s.made.accounts 32 (and-right (leb 2 s.made.accounts) _ asked)

@@ -1,5 +1,5 @@
 -- What a journal keeps: a book over terms, and all its calls with their answers. Assumes nothing.
-use Rattle.std.specs.Prelude.{ℕ, List, reverse, ℤ, Option}
+use Rattle.std.specs.Prelude.{ℕ, min, List, reverse, ℤ, Option, vec_capacity}
 use Rattle.book.specs.Books.{terms_of as terms_of_book, book_of}
 use Rattle.journal.specs.Statements.{States}
 use Rattle.journal.specs.declared.journal.Journal.{Journal}
@@ -34,6 +34,10 @@ module _ {T : Type 0} {g : Ghosts T} where
 
   abbrev pub history_of : Journal T g → History
   history_of j = reverse (entries_of j)
+
+  -- for how many entries it has memory, of those that can be read
+  abbrev pub room_of : Journal T g → ℕ
+  room_of j = min (vec_capacity j.entries) 1000000000
 
   -- the history reached the book, and the law of the ledger held at the start and after each of its calls
   abbrev pub Lives : Journal T g → Type 0

@@ -1,7 +1,7 @@
 // A journal's make, its reads and its calls.
-ghost use Rattle.std.specs.Prelude.{◌≡◌, [], ◌∷◌, ◌++◌, reverse, IfOk, IfErr, Some, None, MatchResult};
+ghost use Rattle.std.specs.Prelude.{◌≡◌, ◌≤◌, [], ◌∷◌, ◌++◌, length, reverse, IfOk, IfErr, Some, None, MatchResult};
 ghost use Rattle.book.specs.Books.{book_of, terms_of as terms_of_book};
-ghost use Rattle.journal.specs.Journals.{terms_of, meaning_of, state_of, entries_of, refused, left, listed, noted};
+ghost use Rattle.journal.specs.Journals.{terms_of, meaning_of, state_of, entries_of, room_of, refused, left, listed, noted};
 ghost use Rattle.ledger.specs.Ledger.{Life};
 ghost use Rattle.ledger.specs.Make.{made_of, make_refusal};
 ghost use Rattle.ledger.specs.State.{new_state};
@@ -66,7 +66,8 @@ impl<T: Terms> Journal<T> {
     }
 
     /// Hands a call to the book and notes it with its answer. A settle and a close get the first lines of the list, as many
-    /// as the call says. Where there is no memory for the note, or no more room, nothing is done.
+    /// as the call says. Where no memory for the note is to be had, or as many calls are noted as can be read, nothing is
+    /// done; never while there is room.
     pub fn call(
         &mut self,
         call: Call,
@@ -76,6 +77,7 @@ impl<T: Terms> Journal<T> {
         ensures state { IfOk result (λ r. state_of self.new ≡ left self.old call) }
         ensures list { IfOk result (λ r. list.new ≡ listed self.old call list.old) }
         ensures entries { IfOk result (λ r. entries_of self.new ≡ entries_of self.old ++ noted self.old call ∷ []) }
+        ensures full { IfErr result (λ e. room_of self.old ≤ length (entries_of self.old)) }
         ensures state_kept { IfErr result (λ e. state_of self.new ≡ state_of self.old) }
         ensures list_kept { IfErr result (λ e. list.new ≡ list.old) }
         ensures entries_kept { IfErr result (λ e. entries_of self.new ≡ entries_of self.old) }

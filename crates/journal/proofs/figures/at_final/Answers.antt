@@ -2,11 +2,11 @@ use Rattle.std.proofs.Common.{◌≡◌, ◌^◌, ◌≤◌, nat_abs, pos, rules
 use mir.Syntax.{w128}
 use Rattle.amounts.proofs.Sums.{sum_same}
 use Rattle.amounts.specs.SumsOfWhole.{sum_z}
-use Rattle.closing.proofs.Loops.{each-made}
+use Rattle.terms.proofs.Made.{each-made}
 use Rattle.journal.specs.Figures.{final_in}
 use Rattle.ledger.specs.Words.{at}
 use Rattle.std.proofs.lemmas.Int.{to_z-of_z}
-use Rattle.journal.proofs.statement.at_final.Goals as goal
+use Rattle.journal.proofs.figures.at_final.Goals as goal
 
 pub total-requires : goal.total-requires
 total-requires g c =

@@ -1,13 +1,13 @@
 use Rattle.std.proofs.Common.{◌≡◌, ℕ, ℤ, ◌^◌, ◌<◌, ◌≤◌, nat_abs, pos, rules, ap, ◌∙◌, arith}
 use mir.Syntax.{w128}
 use Rattle.amounts.specs.SumsOfWhole.{sum_z}
-use Rattle.book.specs.Tables.{view}
-use Rattle.closing.proofs.Loops.{each-made}
+use Rattle.book.specs.Books.{book_of, meaning_of}
+use Rattle.terms.proofs.Made.{each-made}
 use Rattle.journal.proofs.Totals.{few, small, sum-of}
 use Rattle.journal.specs.Figures.{last_in}
 use Rattle.std.proofs.lemmas.Int.{to_z-of_z}
 use Rattle.std.proofs.lemmas.List.{length-take}
-use Rattle.journal.proofs.statement.at_last.Goals as goal
+use Rattle.journal.proofs.figures.at_last.Goals as goal
 
 pub slice_bounds-parts-end : goal.slice_bounds-parts-end
 slice_bounds-parts-end g c =
@@ -29,9 +29,9 @@ returns g c =
     let n = c.classes.result in
     let xs = c.from_fn-parts.result in
     let b = c.args.book.now in
-    let f : ℕ → ℤ = last_in (g.T.Terms.meaning b.terms) (view b.tables) c.args.reading.now c.args.account in
+    let f : ℕ → ℤ = last_in (meaning_of b) (book_of b) c.args.reading.now c.args.account in
     let in_use : n ≤ 12 = omega (arith, (g.met.T.Terms.lawful c.terms.result.now).twelve, c.classes.ensures) in
-    let count : n ≡ (g.T.Terms.meaning b.terms).classes = c.classes.ensures ∙ ap (λ t. (g.T.Terms.meaning t).classes) c.terms.ensures in
+    let count : n ≡ (meaning_of b).classes = c.classes.ensures ∙ ap (λ t. (g.T.Terms.meaning t).classes) c.terms.ensures in
     to_z-of_z w128 c.total.result (record { sfits = c.total.type_inv }) ∙ c.total.ensures
-    ∙ sum-of n xs f (omega (arith, c.from_fn-parts.ensures.items.long)) (λ i h. each-made _ _ (λ i y. i < (g.T.Terms.meaning b.terms).classes → y ≡ f i) (λ i y q k. (search (rules, c.requires), search rules)) xs 12 c.from_fn-parts.ensures.items i (pos 0) (omega arith) (omega (arith, count)))
+    ∙ sum-of n xs f (omega (arith, c.from_fn-parts.ensures.items.long)) (λ i h. each-made _ _ (λ i y. i < (meaning_of b).classes → y ≡ f i) (λ i y q k. (search (rules, c.requires), search rules)) xs 12 c.from_fn-parts.ensures.items i (pos 0) (omega arith) (omega (arith, count)))
     ∙ ap (λ k. sum_z k f) count

@@ -1,7 +1,7 @@
 use Rattle.std.proofs.Common.{◌^◌, refl, arith, lit<}
 use mir.Syntax.{w128}
 use Rattle.amounts.proofs.Exact.{small-fits}
-use Rattle.closing.proofs.Loops.{sum_fits, sum-turn}
+use Rattle.book.proofs.Loops.{sum_fits, sum-turn}
 use Rattle.ledger.specs.Words.{at}
 use Rattle.std.proofs.lemmas.Int.{to_z-of_z}
 use Rattle.journal.proofs.sums.total.Goals as goal

@@ -1,5 +1,5 @@
 use Rattle.std.proofs.Common.{◌^◌}
-use Rattle.closing.proofs.Loops.{Summed}
+use Rattle.book.proofs.Loops.{Summed}
 use Rattle.ledger.specs.Words.{at}
 use Rattle.journal.proofs.sums.total.Given as goal
 
