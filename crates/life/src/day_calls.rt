@@ -3,9 +3,11 @@ ghost use Rattle.std.specs.Prelude.{◌≡◌, ◌++◌, IfOk};
 ghost use Rattle.std.specs.List.{flat_map, range_with_len};
 ghost use Rattle.book.specs.Books.{book_of, meaning_of};
 ghost use Rattle.life.specs.DayCalls.{unmarked, settle_calls, mark_calls, day_calls};
+ghost use Rattle.sheet.specs.Desks.{meaning_at, state_at};
 
 use book::Book;
 use ledger::Call;
+use sheet::Desk;
 use std::alloc::{AllocError, Global};
 use terms::Terms;
 
@@ -63,12 +65,8 @@ fn push_marks<T: Terms>(calls: &mut Vec<Call>, book: &Book<T>, price: i32) -> Re
     Ok(())
 }
 
-// The calls of a day: the settle, the marks, the close.
-pub(crate) fn day_calls<T: Terms>(
-    heap: Global,
-    book: &Book<T>,
-    price: i32,
-) -> Result<Vec<Call>, AllocError>
+// The calls of a day on a book: the settle, the marks, the close.
+fn calls_on<T: Terms>(heap: Global, book: &Book<T>, price: i32) -> Result<Vec<Call>, AllocError>
     ensures { IfOk result (λ calls. calls.items ≡ day_calls (meaning_of book.now) (book_of book.now) price) }
 {
     let mut calls = Vec::new(heap);
@@ -76,4 +74,15 @@ pub(crate) fn day_calls<T: Terms>(
     push_marks(&mut calls, book, price)?;
     calls.push(Call::Close { room: ROOM })?;
     Ok(calls)
+}
+
+// The same on the book of a desk.
+pub(crate) fn day_calls<T: Terms>(
+    heap: Global,
+    desk: &Desk<T>,
+    price: i32,
+) -> Result<Vec<Call>, AllocError>
+    ensures { IfOk result (λ calls. calls.items ≡ day_calls (meaning_at desk.now) (state_at desk.now) price) }
+{
+    calls_on(heap, desk.journal.book(), price)
 }

@@ -114,7 +114,7 @@ impl Teller {
         ensures all { IfOk result (λ a. a ≡ day_passes (meaning_in life.old) self.product self.followed line advance.price (run_of life.old)) }
         ensures terms { terms_in life.new ≡ terms_in life.old }
     {
-        let calls = day_calls(heap, life.desk.journal.book(), advance.price)?;
+        let calls = day_calls(heap, &life.desk, advance.price)?;
         self.call_all(life, line, calls.as_slice())
     }
 

@@ -1,7 +1,7 @@
 -- What is had at a desk, what a line that is called there is answered and leaves, and what a whole sheet makes of a journal.
 -- Assumes nothing.
 use Rattle.std.specs.Prelude.{◌≡◌, ℕ, List, ◌++◌, Result}
-use Rattle.journal.specs.Journals.{terms_of, meaning_of, state_of, entries_of}
+use Rattle.journal.specs.Journals.{terms_of, meaning_of, state_of, entries_of, room_of}
 use Rattle.journal.specs.declared.journal.Journal.{Journal}
 use Rattle.ledger.specs.State.{State}
 use Rattle.ledger.specs.declared.entry.Entry.{Entry}
@@ -33,6 +33,10 @@ module _ {T : Type 0} {g : Ghosts T} where
   -- the calls that were made, with their answers, the first at the head
   abbrev pub entries_at : Desk T g → List Entry
   entries_at d = entries_of d.journal
+
+  -- for how many entries there is memory
+  abbrev pub room_at : Desk T g → ℕ
+  room_at d = room_of d.journal
 
   -- the reply to a line of values that asks this
   abbrev pub reply_at : Desk T g → Result Request SheetFault → Result (List Payment) Cause

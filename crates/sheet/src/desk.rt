@@ -1,10 +1,10 @@
 // A book at which the lines of a sheet are called, and the replies to them.
-ghost use Rattle.std.specs.Prelude.{◌≡◌, List, [], ◌∷◌, length, take, Option, Ok, IfOk, IfErr, MatchResult};
+ghost use Rattle.std.specs.Prelude.{◌≡◌, ◌≤◌, List, [], ◌∷◌, length, take, Option, Ok, IfOk, IfErr, MatchResult};
 ghost use Rattle.ledger.specs.Words.{reply as reply_of_book};
 ghost use Rattle.ledger.specs.declared.fault.Fault.{Fault as BookFault};
 ghost use Rattle.ledger.specs.declared.payment.Payment.{Payment as Paid};
 ghost use Rattle.rows.specs.declared.request.Request.TheVariants.{Book as OfBook, Margins as OfMargins};
-ghost use Rattle.sheet.specs.Desks.{terms_at, meaning_at, state_at, entries_at, reply_at, state_left, entries_left};
+ghost use Rattle.sheet.specs.Desks.{terms_at, meaning_at, state_at, entries_at, room_at, reply_at, state_left, entries_left};
 ghost use Rattle.sheet.specs.Replies.{amounts, told, Tells};
 
 use crate::cause::Cause;
@@ -70,6 +70,7 @@ impl<T: Terms> Desk<T> {
         ensures told { IfOk result (λ r. Tells (reply_at self.old (Ok (OfBook call))) r self.new.list) }
         ensures state { IfOk result (λ r. state_at self.new ≡ state_left self.old (Ok (OfBook call))) }
         ensures entries { IfOk result (λ r. entries_at self.new ≡ entries_left self.old (Ok (OfBook call))) }
+        ensures full { IfErr result (λ e. room_at self.old ≤ length (entries_at self.old)) }
         ensures state_kept { IfErr result (λ e. state_at self.new ≡ state_at self.old) }
         ensures entries_kept { IfErr result (λ e. entries_at self.new ≡ entries_at self.old) }
         ensures terms { terms_at self.new ≡ terms_at self.old }
@@ -90,7 +91,8 @@ impl<T: Terms> Desk<T> {
     }
 
     /// What a line of values asks, or why it is refused by the sheet. The reply is a fault, or how many payments at the head
-    /// of the list are told. Where there is no memory for the note of a call, nothing is done.
+    /// of the list are told. Where there is no memory for the note of a call, nothing is done; never while
+    /// the journal has room.
     pub fn reply(
         &mut self,
         asked: Result<Request, SheetFault>,
@@ -98,6 +100,7 @@ impl<T: Terms> Desk<T> {
         ensures told { IfOk result (λ r. Tells (reply_at self.old asked) r self.new.list) }
         ensures state { IfOk result (λ r. state_at self.new ≡ state_left self.old asked) }
         ensures entries { IfOk result (λ r. entries_at self.new ≡ entries_left self.old asked) }
+        ensures full { IfErr result (λ e. room_at self.old ≤ length (entries_at self.old)) }
         ensures state_kept { IfErr result (λ e. state_at self.new ≡ state_at self.old) }
         ensures entries_kept { IfErr result (λ e. entries_at self.new ≡ entries_at self.old) }
         ensures terms { terms_at self.new ≡ terms_at self.old }
