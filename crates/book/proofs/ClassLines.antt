@@ -1,5 +1,5 @@
 -- Class lines: line by line in make, and found by their class afterwards. Assumes nothing.
-use Rattle.std.proofs.Common.{◌≡◌, ℕ, zero, suc, ◌+◌, ◌-◌, ◌<◌, ◌≤◌, Bool, true, false, MatchBool, ◌&&◌, eqb, leb, List, [], ◌∷◌, ◌++◌, map, length, min, get_or, take, drop, replicate, Some, None, Option, sym, refl, ap, ◌∙◌, ⊎_elim, arith}
+use Rattle.std.proofs.Common.{◌≡◌, ℕ, zero, suc, ◌+◌, ◌<◌, Bool, true, false, MatchBool, ◌&&◌, eqb, leb, List, [], ◌∷◌, ◌++◌, map, length, min, get_or, take, drop, replicate, Some, None, Option, sym, refl, ap, ◌∙◌, ⊎_elim, arith}
 use Rattle.book.specs.Lines.{line_fits, filled}
 use Rattle.coded.proofs.Found.{place-some}
 use Rattle.coded.specs.Places.{Rising, place}

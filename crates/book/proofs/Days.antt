@@ -1,5 +1,5 @@
 -- A table that was read off the terms. Assumes nothing.
-use Rattle.std.proofs.Common.{◌≡◌, ℕ, ◌<◌, ◌≤◌, false, get_or, None, Option, sym, ap, ◌∙◌, subst}
+use Rattle.std.proofs.Common.{◌≡◌, ℕ, ◌<◌, ◌≤◌, get_or, None, Option, sym, ap, ◌∙◌, subst}
 use Rattle.book.specs.Rows.{Flagged, SmallDay}
 use Rattle.day_table.proofs.Columns.{class-at, day-classes}
 use Rattle.day_table.proofs.Tables.{read-day, no-parts, quantity-most}

@@ -1,5 +1,5 @@
 -- A new book, and what an accepted make was asked. Assumes nothing.
-use Rattle.std.proofs.Common.{◌≡◌, ℕ, zero, suc, ◌≤◌, true, ◌&&◌, leb, List, length, get_or, replicate, take, None, sym, refl, ap, ◌∙◌, arith}
+use Rattle.std.proofs.Common.{◌≡◌, ℕ, zero, suc, ◌≤◌, true, ◌&&◌, leb, length, replicate, take, None, refl, ap, ◌∙◌, arith}
 use Rattle.book.proofs.ClassLines.{lines-count, filled-first}
 use Rattle.book.specs.Lines.{filled}
 use Rattle.book.specs.Markets.{cents_in, prices_at}

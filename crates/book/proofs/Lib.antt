@@ -2,7 +2,6 @@ pub mod Days
 pub mod Markets
 pub mod Afters
 pub mod Loops
-pub mod Accounts
 pub mod Lives
 pub mod ClassLines
 pub mod Places
@@ -13,3 +12,4 @@ pub mod Trades
 pub mod Fresh
 pub mod Settles
 pub mod Replays
+pub mod Closes

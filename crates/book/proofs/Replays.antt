@@ -76,3 +76,18 @@ module _ (w : Meaning) (s : State) (n room : ℕ) (xs : List Payment) (e : n ≡
             part-list (refusal w s (Settle f first)) n count xs (paid w s (Settle f room)) (λ r. leb-true count _ (ask-none (leb count first) _ _ r).0)
             ∙ ap (λ o. unless o (written xs count (paid w s (Settle f room))) xs) same;
       }
+
+-- a call that writes into no list
+pub unwritten : (o : Option Fault) (xs : List Payment) → unless o xs xs ≡ xs
+unwritten None xs = refl
+unwritten (Some f) xs = refl
+
+-- ---- lists of calls
+
+-- one call more
+pub one-more : (w : Meaning) → Laws w → (entries : List Entry) (i : ℕ) (s t : State) (e : Entry) → i < length entries → Life w (reverse (take i entries)) s → e.answer ≡ refusal w s e.call → t ≡ after w s e.call → Life w (reverse (take (i + 1) (set entries i e))) t
+one-more w law entries i s t e h life answer left =
+    let told : reverse (take (i + 1) (set entries i e)) ≡ e ∷ reverse (take i entries) = ap reverse (take_more_set entries i e h) ∙ reverse-append (take i entries) (e ∷ []) in
+    let same : record { call = e.call; answer = refusal w s e.call } ≡ e = λ j. record { call = e.call; answer = sym answer j } in
+    subst (λ h. Life w h t) (sym told)
+    (subst (λ e'. Life w (e' ∷ reverse (take i entries)) t) same (lives-on w law s e.call t left (reverse (take i entries)) life))

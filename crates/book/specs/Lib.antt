@@ -5,4 +5,3 @@ pub mod Tables
 pub mod Lines
 pub mod Stores
 pub mod Books
-pub mod Closes

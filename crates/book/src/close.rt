@@ -1,9 +1,8 @@
 // Close: the end of a day.
-ghost use Rattle.std.specs.Prelude.{◌≡◌, ℕ, ◌<◌, ◌≤◌, true, length, map, None, Some, Ok, cond, ◌&&◌, not, is_some, unsigned_abs, slice_index_or};
+ghost use Rattle.std.specs.Prelude.{◌≡◌, ℕ, ◌<◌, ◌≤◌, true, length, map, None, Some, Ok, cond, ◌&&◌, not, is_some, IfOk, MatchResult, unsigned_abs, slice_index_or};
 ghost use Rattle.book.specs.Books.{book_of, terms_of, refused, left, listed, GoesOn};
-ghost use Rattle.book.specs.Closes.{may_close};
 ghost use Rattle.book.specs.Markets.{cents_in, market_of};
-ghost use Rattle.book.specs.Rows.{rows_of, CashFits};
+ghost use Rattle.book.specs.Rows.{rows_of, CashFits, Known};
 ghost use Rattle.book.specs.Stores.{meaning_in, state_in, terms_in, Ready};
 ghost use Rattle.day_table.specs.Table.{day_in, table_of};
 ghost use Rattle.ledger.specs.Calls.{refusal, done, after, all_rows, lots_fit, after_parts, newest, by_end, close_pay, today};
@@ -33,37 +32,43 @@ fn is_by_end(next: Option<u32>) -> bool
 // Whether a class has a price today, if it is tradable.
 fn is_priced(day: &DayTable, prices: &[Prices; 12], class: usize) -> bool
     requires { class < 12 }
-    ensures { (d n : ℕ) → result ≡ cond ((day_in day.now).tradable class) (is_some ((market_of d n prices.now).today class)) true }
+    ensures { result ≡ cond ((day_in day.now).tradable class) (is_some ((market_of 0 0 prices.now).today class)) true }
 {
     !day.tradable[class] || prices[class].today.is_some()
 }
 
-// The prices of a class that succeeds another one, on the next day.
-fn carried_prices(
-    day: &DayTable,
-    next: &DayTable,
-    prices: &[Prices; 12],
-    source: Option<u32>,
-    class: usize,
-) -> Prices
-    requires class { class < 12 }
-    requires source { (c : ℕ) → source ≡ Some c → c < 12 }
-    ensures last { (d n : ℕ) → cents_in result.last ≡ from source None (newest (day_in day.now) (market_of d n prices.now)) }
-    ensures today { result.today ≡ None }
-    ensures repriced { (d n : ℕ) → cents_in result.repriced ≡ cond ((day_in next.now).tradable class) None (from source None (market_of d n prices.now).repriced) }
+// What a class has from the one that it succeeds: its newest price and its repricing.
+fn handed(day: &DayTable, prices: &[Prices; 12], sources: &[Option<u32>; 12], class: usize) -> Prices
+    requires { (class < 12) × (Known 12 sources.now) }
+    ensures last { cents_in result.last ≡ from (slice_index_or sources.now class None) None (newest (day_in day.now) (market_of 0 0 prices.now)) }
+    ensures today { cents_in result.today ≡ None }
+    ensures repriced { cents_in result.repriced ≡ from (slice_index_or sources.now class None) None (market_of 0 0 prices.now).repriced }
 {
-    let Some(source) = source else {
-        return UNPRICED;
-    };
-    let repriced = if next.tradable[class] {
-        None
+    match sources[class] {
+        Some(source) => Prices {
+            last: newest(day, prices, source as usize),
+            today: None,
+            repriced: prices[source as usize].repriced,
+        },
+        None => UNPRICED,
+    }
+}
+
+// The prices of a class on the next day.
+fn carried_prices(day: &DayTable, next: &DayTable, prices: &[Prices; 12], sources: &[Option<u32>; 12], class: usize) -> Prices
+    requires { (class < 12) × (Known 12 sources.now) }
+    ensures last { cents_in result.last ≡ from (slice_index_or sources.now class None) None (newest (day_in day.now) (market_of 0 0 prices.now)) }
+    ensures today { cents_in result.today ≡ None }
+    ensures repriced { cents_in result.repriced ≡ cond ((day_in next.now).tradable class) None (from (slice_index_or sources.now class None) None (market_of 0 0 prices.now).repriced) }
+{
+    let prices = handed(day, prices, sources, class);
+    if next.tradable[class] {
+        Prices {
+            repriced: None,
+            ..prices
+        }
     } else {
-        prices[source as usize].repriced
-    };
-    Prices {
-        last: newest(day, prices, source as usize),
-        today: None,
-        repriced,
+        prices
     }
 }
 
@@ -74,12 +79,12 @@ fn all_carried_prices(
     prices: &[Prices; 12],
     sources: &[Option<u32>; 12],
 ) -> [Prices; 12]
-    requires { (t c : ℕ) → slice_index_or sources.now t None ≡ Some c → c < 12 }
+    requires { Known 12 sources.now }
     ensures last { (d n t : ℕ) → (market_of d n result).last t ≡ from (slice_index_or sources.now t None) None (newest (day_in day.now) (market_of d n prices.now)) }
     ensures today { (d n t : ℕ) → (market_of d n result).today t ≡ None }
     ensures repriced { (d n t : ℕ) → (market_of d n result).repriced t ≡ cond ((day_in next.now).tradable t) None (from (slice_index_or sources.now t None) None (market_of d n prices.now).repriced) }
 {
-    array::from_fn(|class| carried_prices(day, next, prices, sources[class], class))
+    array::from_fn(|class| carried_prices(day, next, prices, sources, class))
 }
 
 impl<T: Terms> Store<T> {
@@ -103,29 +108,10 @@ impl<T: Terms> Store<T> {
         ensures { result ≡ all_rows (state_in self.now) (λ r. all_below (meaning_in self.now).classes (λ c. lots_fit (after_parts (today (meaning_in self.now) (state_in self.now)) r c))) }
     {
         let day = self.day();
-        !day.some_parts || all_keep_limit(&self.tables.accounts, day)
-    }
-
-    // The questions before that of the cash: the first that is answered no.
-    fn may_close(&self, room: usize) -> Result<(), Fault>
-        ensures { result ≡ reply (may_close (today (meaning_in self.now) (state_in self.now)) (state_in self.now) room) tt }
-    {
-        if self.tables.accounts.len() > room {
-            return Err(Fault::ListTooShort);
+        if !day.some_parts {
+            return true;
         }
-        if !self.all_priced() {
-            return Err(Fault::ClassUnpriced);
-        }
-        if self.is_unsettled() {
-            return Err(Fault::SettlingUnsettled);
-        }
-        if !self.keeps_limit() {
-            return Err(Fault::PartsOutOfRange);
-        }
-        if !is_by_end(self.day().next) {
-            return Err(Fault::NoDayLeft);
-        }
-        Ok(())
+        all_keep_limit(&self.tables.accounts, day)
     }
 
     // What each account is paid.
@@ -142,10 +128,39 @@ impl<T: Terms> Store<T> {
         pays_with_parts(&self.tables.accounts, &pays, day, &newest)
     }
 
+    // What each account is paid, where no question is answered no.
+    fn may_close(&self, room: usize) -> Result<[i64; 32], Fault>
+        ensures answer { MatchResult result (λ pays. refusal (meaning_in self.now) (state_in self.now) (Close room) ≡ None) (λ f. refusal (meaning_in self.now) (state_in self.now) (Close room) ≡ Some f) }
+        ensures pays { IfOk result (λ pays. (a : ℕ) → a < (state_in self.now).made.accounts → at pays a ≡ close_pay (today (meaning_in self.now) (state_in self.now)) (state_in self.now).market ((state_in self.now).rows a)) }
+        ensures fits { IfOk result (λ pays. CashFits self.now.tables.accounts.items pays) }
+        ensures room { IfOk result (λ pays. (state_in self.now).made.accounts ≤ room) }
+    {
+        if self.tables.accounts.len() > room {
+            return Err(Fault::ListTooShort);
+        }
+        if !self.all_priced() {
+            return Err(Fault::ClassUnpriced);
+        }
+        if self.is_unsettled() {
+            return Err(Fault::SettlingUnsettled);
+        }
+        if !self.keeps_limit() {
+            return Err(Fault::PartsOutOfRange);
+        }
+        if !is_by_end(self.day().next) {
+            return Err(Fault::NoDayLeft);
+        }
+        let pays = self.close_pays();
+        if !self.may_pay(&pays) {
+            return Err(Fault::CashOutOfRange);
+        }
+        Ok(pays)
+    }
+
     // The accounts are paid, and lots and prices go on to the next open day, where all questions were answered yes.
     fn go_on(&mut self, pays: &[i64; 32])
         requires ready { Ready self.old }
-        requires may { may_close (today (meaning_in self.old) (state_in self.old)) (state_in self.old) (state_in self.old).made.accounts ≡ None }
+        requires may { refusal (meaning_in self.old) (state_in self.old) (Close (state_in self.old).made.accounts) ≡ None }
         requires fits { CashFits self.old.tables.accounts.items pays.now }
         requires pays { (a : ℕ) → a < (state_in self.old).made.accounts → at pays.now a ≡ close_pay (today (meaning_in self.old) (state_in self.old)) (state_in self.old).market ((state_in self.old).rows a) }
         ensures terms { terms_in self.new ≡ terms_in self.old }
@@ -173,11 +188,7 @@ impl<T: Terms> Store<T> {
         ensures list { list.new ≡ list_after (meaning_in self.old) (state_in self.old) (Close (length list.old)) list.old }
         ensures terms { terms_in self.new ≡ terms_in self.old }
     {
-        self.may_close(list.len())?;
-        let pays = self.close_pays();
-        if !self.may_pay(&pays) {
-            return Err(Fault::CashOutOfRange);
-        }
+        let pays = self.may_close(list.len())?;
         write_lines(self.tables.accounts.len() as u32, &pays, list);
         self.go_on(&pays);
         Ok(())

@@ -1,5 +1,5 @@
 // The reading of a history for one account, call by call, as the law of the ledger reads it.
-ghost use Rattle.std.specs.Prelude.{◌≡◌, ℕ, ◌+◌, ◌^◌, ◌<◌, ◌≤◌, [], ◌∷◌, Some, None, MatchOption, cond, ◌+ℤ◌, ◌*ℤ◌, pos, ◌==◌, length, reverse, slice_index_or, unsigned_abs};
+ghost use Rattle.std.specs.Prelude.{◌≡◌, ℕ, ◌+◌, ◌^◌, ◌<◌, ◌≤◌, [], ◌∷◌, Some, None, IfSome, IfNone, cond, ◌+ℤ◌, ◌*ℤ◌, pos, ◌==◌, length, reverse, slice_index_or, unsigned_abs};
 ghost use Rattle.amounts.specs.SumsOfWhole.{if_z};
 ghost use Rattle.history.specs.Told.{Told};
 ghost use Rattle.ledger.specs.History.{History, first_of};
@@ -131,7 +131,8 @@ pub fn read_account<T: Terms>(
     entries: &[Entry],
     account: u32,
 ) -> Option<Reading>
-    ensures { MatchOption result (1000000000 < length entries.now) (λ r. Told (T.meaning terms.now) month (reverse entries.now) account r) }
+    ensures too_many { IfNone result (1000000000 < length entries.now) }
+    ensures told { IfSome result (Told (T.meaning terms.now) month (reverse entries.now) account) }
 {
     if entries.len() > MOST_CALLS {
         return None;

@@ -27,9 +27,9 @@ told r None e = ap result_err e
 told r (Some f) e = ap result_err e
 
 -- the entries, as they were after room was made and then after the note was put behind them
-pub noted-last : {T : Type 0} {g : Ghosts T} {X E : Type 0} (j : Journal T g) (call : Call) (reply_of : Result (Unit {0}) Fault) (e : Entry) (push : Result X E) (items items' : List Entry) → reply_of ≡ reply (refused j call) tt → e ≡ record { call = call; answer = result_err reply_of } → IsOk push → items ≡ entries_of j → items' ≡ (if is_ok push then items ++ e ∷ [] else items) → items' ≡ entries_of j ++ noted j call ∷ []
+pub noted-last : {T : Type 0} {g : Ghosts T} {X E : Type 0} (j : Journal T g) (call : Call) (reply_of : Result (Unit {0}) Fault) (e : Entry) (push : Result X E) (items items' : List Entry) → reply_of ≡ reply (refused j call) tt → e ≡ record { call = call; answer = result_err reply_of } → IsOk push → items ≡ entries_of j → items' ≡ (if is_ok push then items ++ e ∷ [] else items) → items' ≡ noted j call
 noted-last j call r e push items items' answer note ok room pushed =
-    let n : e ≡ noted j call = note ∙ (λ i. record { call = call; answer = told r (refused j call) answer i }) in
+    let n : e ≡ record { call = call; answer = refused j call } = note ∙ (λ i. record { call = call; answer = told r (refused j call) answer i }) in
     pushed ∙ when_ok push (items ++ e ∷ []) items ok ∙ (λ i. room i ++ n i ∷ [])
 
 -- the book lives on, with the call and its answer at the end of the entries

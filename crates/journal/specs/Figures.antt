@@ -1,11 +1,9 @@
 -- The figures of the law of the ledger, by what a book holds and a reading tells. Assumes nothing.
-use Rattle.std.specs.Prelude.{ℕ, ℤ, pos, ◌-ℤ◌, ◌*ℤ◌, None, Option, nat_lt, slice_index_or}
+use Rattle.std.specs.Prelude.{ℕ, ℤ, pos, ◌-ℤ◌, ◌*ℤ◌, None, slice_index_or}
 use Rattle.amounts.specs.SumsOfWhole.{sum_z, if_z}
 use Rattle.history.specs.declared.reading.Reading.{Reading}
 use Rattle.ledger.specs.State.{State, class_now, quantity_now}
-use Rattle.ledger.specs.Words.{ask, at, or_zero}
-use Rattle.ledger.specs.declared.fault.Fault.{Fault}
-use Rattle.ledger.specs.declared.fault.Fault.TheVariants.{UnknownClass}
+use Rattle.ledger.specs.Words.{at, or_zero}
 use Rattle.terms.specs.Meaning.{Meaning, has}
 
 module _ (w : Meaning) (s : State) where
@@ -23,13 +21,10 @@ final_in w r m = at r.nets m *ℤ (pos (w.quantity m) *ℤ or_zero (slice_index_
 
 -- ---- over all accounts
 
--- the lots in a class, and the question whether it is one of the terms
-abbrev pub all_lots : State → ℕ → ℤ
-all_lots s c = sum_z s.made.accounts (λ a. (s.rows a).lots c)
-
-abbrev pub class_refusal : Meaning → ℕ → Option Fault
-class_refusal w c = ask (nat_lt c w.classes) UnknownClass None
+-- the lots in a class
+abbrev pub sum_of_lots : State → ℕ → ℤ
+sum_of_lots s c = sum_z s.made.accounts (λ a. (s.rows a).lots c)
 
 -- the cash
-abbrev pub all_cash : State → ℤ
-all_cash s = sum_z s.made.accounts (λ a. (s.rows a).cash)
+abbrev pub sum_of_cash : State → ℤ
+sum_of_cash s = sum_z s.made.accounts (λ a. (s.rows a).cash)

@@ -1,5 +1,5 @@
 -- What a journal keeps: a book over terms, and all its calls with their answers. Assumes nothing.
-use Rattle.std.specs.Prelude.{ℕ, min, List, reverse, ℤ, Option, vec_capacity}
+use Rattle.std.specs.Prelude.{ℕ, min, List, [], ◌∷◌, ◌++◌, reverse, ℤ, Option, vec_capacity}
 use Rattle.book.specs.Books.{terms_of as terms_of_book, book_of}
 use Rattle.journal.specs.Statements.{States}
 use Rattle.journal.specs.declared.journal.Journal.{Journal}
@@ -7,7 +7,7 @@ use Rattle.journal.specs.declared.statement.Statement.{Statement}
 use Rattle.ledger.specs.Calls.{refusal, after}
 use Rattle.ledger.specs.History.{History}
 use Rattle.ledger.specs.Ledger.{Life, held}
-use Rattle.ledger.specs.Questions.{list_after}
+use Rattle.ledger.specs.Questions.{list_after, cash_refusal}
 use Rattle.ledger.specs.State.{State}
 use Rattle.ledger.specs.declared.call.Call.{Call}
 use Rattle.ledger.specs.declared.entry.Entry.{Entry}
@@ -45,7 +45,8 @@ module _ {T : Type 0} {g : Ghosts T} where
 
   -- ---- a call
 
-  -- the question that is answered no, if one is; what the book holds afterwards; a payment list afterwards; what is noted
+  -- the question that is answered no, if one is; what the book holds afterwards; a payment list and the
+  -- entries afterwards
   abbrev pub refused : Journal T g → Call → Option Fault
   refused j call = refusal (meaning_of j) (state_of j) call
 
@@ -55,10 +56,14 @@ module _ {T : Type 0} {g : Ghosts T} where
   abbrev pub listed : Journal T g → Call → List Payment → List Payment
   listed j call list = list_after (meaning_of j) (state_of j) call list
 
-  abbrev pub noted : Journal T g → Call → Entry
-  noted j call = record { call = call; answer = refused j call }
+  abbrev pub noted : Journal T g → Call → List Entry
+  noted j call = entries_of j ++ record { call = call; answer = refused j call } ∷ []
 
   -- ---- an account
+
+  -- the question of a number that is no account
+  abbrev pub unknown : Journal T g → ℕ → Option Fault
+  unknown j a = cash_refusal (state_of j) a
 
   -- what it holds in a month, by the law
   abbrev pub held_in_month : Journal T g → ℕ → ℕ → ℤ

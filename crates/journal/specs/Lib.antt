@@ -1,3 +1,4 @@
 pub mod Figures
+pub mod Sums
 pub mod Statements
 pub mod Journals

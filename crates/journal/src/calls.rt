@@ -1,5 +1,5 @@
 // A journal's make, its reads and its calls.
-ghost use Rattle.std.specs.Prelude.{◌≡◌, ◌≤◌, [], ◌∷◌, ◌++◌, length, reverse, IfOk, IfErr, Some, None, MatchResult};
+ghost use Rattle.std.specs.Prelude.{◌≡◌, ◌≤◌, [], length, reverse, IfOk, IfErr, Some, None, MatchResult};
 ghost use Rattle.book.specs.Books.{book_of, terms_of as terms_of_book};
 ghost use Rattle.journal.specs.Journals.{terms_of, meaning_of, state_of, entries_of, room_of, refused, left, listed, noted};
 ghost use Rattle.ledger.specs.Ledger.{Life};
@@ -76,7 +76,7 @@ impl<T: Terms> Journal<T> {
         ensures answer { IfOk result (λ r. r ≡ reply (refused self.old call) tt) }
         ensures state { IfOk result (λ r. state_of self.new ≡ left self.old call) }
         ensures list { IfOk result (λ r. list.new ≡ listed self.old call list.old) }
-        ensures entries { IfOk result (λ r. entries_of self.new ≡ entries_of self.old ++ noted self.old call ∷ []) }
+        ensures entries { IfOk result (λ r. entries_of self.new ≡ noted self.old call) }
         ensures full { IfErr result (λ e. room_of self.old ≤ length (entries_of self.old)) }
         ensures state_kept { IfErr result (λ e. state_of self.new ≡ state_of self.old) }
         ensures list_kept { IfErr result (λ e. list.new ≡ list.old) }

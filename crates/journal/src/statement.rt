@@ -1,8 +1,7 @@
 // An account's statement: the figures of the law of the ledger.
 ghost use Rattle.std.specs.Prelude.{◌≡◌, IfOk, IfErr, Some, None, slice_index_or};
 ghost use Rattle.history.specs.Told.{Told};
-ghost use Rattle.journal.specs.Journals.{meaning_of, state_of, history_of, held_in_month, Stated};
-ghost use Rattle.ledger.specs.Questions.{cash_refusal};
+ghost use Rattle.journal.specs.Journals.{meaning_of, state_of, history_of, unknown, held_in_month, Stated};
 ghost use Rattle.ledger.specs.Words.{reply, at};
 
 use crate::figures::{at_final, at_last, held_total};
@@ -45,7 +44,7 @@ impl Statement {
 impl<T: Terms> Journal<T> {
     /// What an account holds in a month: the sum of its lots in the classes that have the month on the book's day.
     pub fn held(&self, account: u32, month: u32) -> Result<i128, Fault>
-        ensures { result ≡ reply (cash_refusal (state_of self.now) account) (held_in_month self.now account month) }
+        ensures { result ≡ reply (unknown self.now account) (held_in_month self.now account month) }
     {
         self.book.cash(account)?;
         Ok(held_total(&self.book, account, month))
@@ -53,9 +52,9 @@ impl<T: Terms> Journal<T> {
 
     /// What the law says of an account.
     pub fn statement(&self, account: u32) -> Result<Statement, Fault>
-        ensures known { IfOk result (λ x. cash_refusal (state_of self.now) account ≡ None) }
+        ensures known { IfOk result (λ x. unknown self.now account ≡ None) }
         ensures states { IfOk result (λ x. Stated self.now account x) }
-        ensures refused { IfErr result (λ f. cash_refusal (state_of self.now) account ≡ Some f) }
+        ensures refused { IfErr result (λ f. unknown self.now account ≡ Some f) }
     {
         self.book.cash(account)?;
         let reading = self.read(account);

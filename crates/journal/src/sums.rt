@@ -2,7 +2,7 @@
 ghost use Rattle.std.specs.Prelude.{◌≡◌, ℕ, ◌^◌, ◌<◌, ◌≤◌, length, unsigned_abs};
 ghost use Rattle.amounts.specs.SumsOfWhole.{sum_z};
 ghost use Rattle.book.specs.Books.{book_of, meaning_of};
-ghost use Rattle.journal.specs.Figures.{all_lots, class_refusal, all_cash};
+ghost use Rattle.journal.specs.Sums.{all_lots, all_cash, unknown_class};
 ghost use Rattle.ledger.specs.Words.{reply, at};
 
 use book::Book;
@@ -47,7 +47,7 @@ pub(crate) fn cash_of<T: Terms>(book: &Book<T>, account: u32) -> i128
 // The lots of all accounts in a class.
 fn lots_total<T: Terms>(book: &Book<T>, class: u32) -> i128
     requires { class < (meaning_of book.now).classes }
-    ensures { result ≡ all_lots (book_of book.now) class }
+    ensures { result ≡ all_lots book.now class }
 {
     let lots: [i128; 32] = array::from_fn(|account| i128::from(lots_in(
         book,
@@ -59,7 +59,7 @@ fn lots_total<T: Terms>(book: &Book<T>, class: u32) -> i128
 
 /// The lots of all accounts in a class of the terms.
 pub fn lots_sum<T: Terms>(book: &Book<T>, class: u32) -> Result<i128, Fault>
-    ensures { result ≡ reply (class_refusal (meaning_of book.now) class) (all_lots (book_of book.now) class) }
+    ensures { result ≡ reply (unknown_class book.now class) (all_lots book.now class) }
 {
     if class >= book.terms().classes() {
         return Err(Fault::UnknownClass);
@@ -69,7 +69,7 @@ pub fn lots_sum<T: Terms>(book: &Book<T>, class: u32) -> Result<i128, Fault>
 
 /// The cash of all accounts.
 pub fn cash_sum<T: Terms>(book: &Book<T>) -> i128
-    ensures { result ≡ all_cash (book_of book.now) }
+    ensures { result ≡ all_cash book.now }
 {
     let cash: [i128; 32] = array::from_fn(|account| cash_of(book, account as u32));
     total(&cash[..book.accounts() as usize])

@@ -153,7 +153,7 @@ new-along w law m q = record {
   stage = subst (λ F. Stage w F (new_state w m)) (sym (figures-none w m.month)) (stage-new w m (made-answered w law m q));
 }
 
-same-made : (w : Meaning) (s : State) (call : Call) → (after w s call).made ≡ s.made
+pub same-made : (w : Meaning) (s : State) (call : Call) → (after w s call).made ≡ s.made
 same-made w s call = by (refusal w s call)
   where
     by : (o : Option Fault) → (unless o (done w s call) s).made ≡ s.made

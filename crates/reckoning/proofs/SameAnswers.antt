@@ -1,12 +1,12 @@
 -- Two books over the same terms that were handed the same calls gave the same answers. Assumes nothing.
-use Rattle.std.proofs.Common.{◌≡◌, ℕ, true, eqb, List, [], ◌∷◌, ◌++◌, map, reverse, length, get_or, drop, Some, None, Option, refl, sym, ap, ◌∙◌, arith}
-use Rattle.book.specs.Tables.{view, made_tables, done_tables, after_tables}
-use Rattle.book.specs.TablesLaw.{ReachedTables}
-use Rattle.book.specs.declared.tables.Tables.{Tables}
+use Rattle.std.proofs.Common.{◌≡◌, ℕ, true, eqb, List, [], ◌∷◌, ◌++◌, map, reverse, length, get_or, drop, Some, None, Option, refl, sym, ap, ◌∙◌, subst, arith}
 use Rattle.coded.specs.declared.class_line.ClassLine.{ClassLine}
-use Rattle.journal.specs.Lived.{Lived}
-use Rattle.ledger.specs.Calls.{refusal}
+use Rattle.ledger.proofs.Standing.{was-reached}
+use Rattle.ledger.specs.Calls.{refusal, done, after}
 use Rattle.ledger.specs.History.{History}
+use Rattle.ledger.specs.Ledger.{Reached, Life}
+use Rattle.ledger.specs.Make.{made_of}
+use Rattle.ledger.specs.State.{Made, State, new_state}
 use Rattle.ledger.specs.Words.{unless}
 use Rattle.ledger.specs.declared.call.Call.{Call}
 use Rattle.ledger.specs.declared.call.Call.TheVariants.{Trade, Mark, Reprice, Settle, Close}
@@ -18,39 +18,43 @@ use Rattle.std.proofs.Math.Nat.{ℕ_set}
 use Rattle.std.proofs.lemmas.List.{reverse-append, reverse-reverse, map-append}
 use Rattle.terms.specs.Meaning.{Meaning}
 
--- the tables without the class lines, of which no call and no answer speaks
-abbrev bare : Tables → Tables
-bare t = record { day = t.day; count = t.count; accepted = t.accepted; accounts = t.accounts; prices = t.prices; lines = [] }
+-- a state without the class lines, of which no call and no answer speaks
+abbrev unlined : Made → Made
+unlined m = record m { lines = [] }
 
-bare-done : (w : Meaning) (t : Tables) (k : Call) → bare (done_tables w t k) ≡ done_tables w (bare t) k
-bare-done w t (Trade buyer seller c n p) = refl
-bare-done w t (Mark c p) = refl
-bare-done w t (Reprice c p) = refl
-bare-done w t (Settle f room) = refl
-bare-done w t (Close room) = refl
+abbrev bare : State → State
+bare s = record s { made = unlined s.made }
 
-bare-unless : (o : Option Fault) (t u : Tables) → bare (unless o t u) ≡ unless o (bare t) (bare u)
-bare-unless None t u = refl
-bare-unless (Some f) t u = refl
+bare-refusal : (w : Meaning) (s : State) (call : Call) → refusal w (bare s) call ≡ refusal w s call
+bare-refusal w s (Trade buyer seller c n p) = refl
+bare-refusal w s (Mark c p) = refl
+bare-refusal w s (Reprice c p) = refl
+bare-refusal w s (Settle f room) = refl
+bare-refusal w s (Close room) = refl
 
-bare-after : (w : Meaning) (t : Tables) (k : Call) → bare (after_tables w t k) ≡ after_tables w (bare t) k
-bare-after w t k =
-    bare-unless (refusal w (view t) k) (done_tables w t k) t ∙ ap (λ u. unless (refusal w (view t) k) u (bare t)) (bare-done w t k)
+bare-unless : (o : Option Fault) (s t : State) → bare (unless o s t) ≡ unless o (bare s) (bare t)
+bare-unless None s t = refl
+bare-unless (Some f) s t = refl
+
+bare-after : (w : Meaning) (s : State) (call : Call) → bare (after w s call) ≡ after w (bare s) call
+bare-after w s call =
+    bare-unless (refusal w s call) (done w s call) s ∙ ap (λ o. unless o (done w (bare s) call) (bare s)) (sym (bare-refusal w s call))
 
 abbrev pub calls : List Entry → List Call
 calls = map (λ e. e.call)
 
-module _ (w w' : Meaning) (start start' : Tables) (terms : w ≡ w') (begun : bare start ≡ bare start') where
-  same-answers : (h h' : History) (t t' : Tables) → ReachedTables w start h t → ReachedTables w' start' h' t' → calls h ≡ calls h' → (h ≡ h') × (bare t ≡ bare t')
-  same-answers [] [] t t' r r' q = (refl, ap bare r ∙ begun ∙ sym (ap bare r'))
-  same-answers [] (e' ∷ h') t t' r r' q = absurd (omega (arith, ap length q))
-  same-answers (e ∷ h) [] t t' r r' q = absurd (omega (arith, ap length q))
-  same-answers (e ∷ h) (e' ∷ h') t t' r r' q =
+module _ (w w' : Meaning) (m m' : Made) (terms : w ≡ w') (begun : unlined m ≡ unlined m') where
+  same-answers : (h h' : History) (s s' : State) → Reached w m h s → Reached w' m' h' s' → calls h ≡ calls h' → (h ≡ h') × (bare s ≡ bare s')
+  same-answers [] [] s s' r r' q = (refl, ap bare r ∙ (λ i. new_state (terms i) (begun i)) ∙ sym (ap bare r'))
+  same-answers [] (e' ∷ h') s s' r r' q = absurd (omega (arith, ap length q))
+  same-answers (e ∷ h) [] s s' r r' q = absurd (omega (arith, ap length q))
+  same-answers (e ∷ h) (e' ∷ h') s s' r r' q =
       let before = same-answers h h' r.0 r'.0 r.1 r'.1 (ap (drop 1) q) in
       let call : e.call ≡ e'.call = ap (λ (ks : List Call). get_or ks 0 e.call) q in
-      let answer : e.answer ≡ e'.answer = r.2 ∙ (λ i. refusal (terms i) (view (before.1 i)) (call i)) ∙ sym r'.2 in (
+      let answer : e.answer ≡ e'.answer =
+      r.2 ∙ sym (bare-refusal w r.0 e.call) ∙ (λ i. refusal (terms i) (before.1 i) (call i)) ∙ bare-refusal w' r'.0 e'.call ∙ sym r'.2 in (
         λ i. record { call = call i; answer = answer i } ∷ before.0 i,
-        ap bare r.3 ∙ bare-after w r.0 e.call ∙ (λ i. after_tables (terms i) (before.1 i) (call i)) ∙ sym (ap bare r'.3 ∙ bare-after w' r'.0 e'.call),
+        ap bare r.3 ∙ bare-after w r.0 e.call ∙ (λ i. after (terms i) (before.1 i) (call i)) ∙ sym (ap bare r'.3 ∙ bare-after w' r'.0 e'.call),
       )
 
 calls-reverse : (xs : List Entry) → calls (reverse xs) ≡ reverse (calls xs)
@@ -68,9 +72,12 @@ none-differing [] = refl
 none-differing (x ∷ xs) = rw (same-as-itself (answer_number x.answer)) (none-differing xs)
 
 -- over terms of the same meaning, from the same month and with as many accounts, no answer differs
-pub none-differs : (w w' : Meaning) (month month' : ℕ) (lines : List ClassLine) (items : List Entry) (t : Tables) (n : ℕ) → w ≡ w' → month ≡ month' → ∥ Again w month t.count lines items n ∥₁ → ∥ Lived w' month' items t ∥₁ → n ≡ 0
-none-differs w w' month month' lines items t n terms start again lived =
+pub none-differs : (w w' : Meaning) (month : ℕ) (lines : List ClassLine) (items : List Entry) (s : State) (n : ℕ) → w ≡ w' → month ≡ s.made.month → ∥ Again w (made_of month s.made.accounts lines) items n ∥₁ → ∥ Life w' (reverse items) s ∥₁ → n ≡ 0
+none-differs w w' month lines items s n terms start again lived =
     ∥∥₁_elim again (ℕ_set _ _) (λ a. ∥∥₁_elim lived (ℕ_set _ _) (λ l.
-    let e = same-answers w w' (made_tables w month t.count lines) (made_tables w' month' l.accounts l.lines) terms (λ i. bare (made_tables (terms i) (start i) (l.life.agrees.count i) lines)) (reverse a.entries) (reverse items) a.tables t a.life.reached l.life.reached (calls-reverse a.entries ∙ ap reverse a.calls ∙ sym (calls-reverse items)) in
+    let m = made_of month s.made.accounts lines in
+    let begun : unlined m ≡ unlined s.made = λ i. record { month = start i; accounts = s.made.accounts; lines = [] } in
+    let reached : Reached w m (reverse a.entries) a.state = subst (λ m. Reached w m (reverse a.entries) a.state) a.made (was-reached w a.state.made (reverse a.entries) a.state a.life.always) in
+    let e = same-answers w w' m s.made terms begun (reverse a.entries) (reverse items) a.state s reached (was-reached w' s.made (reverse items) s l.always) (calls-reverse a.entries ∙ ap reverse a.calls ∙ sym (calls-reverse items)) in
     let same : a.entries ≡ items = sym (reverse-reverse a.entries) ∙ ap reverse e.0 ∙ reverse-reverse items in
     a.count ∙ ap (differing items) same ∙ none-differing items))

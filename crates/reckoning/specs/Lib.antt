@@ -1,2 +1,3 @@
-pub mod Reckonings
 pub mod Again
+pub mod Reckonings
+pub mod Tellings

@@ -1,7 +1,7 @@
 -- The law of the ledger in figures, in sentences. Assumes nothing.
 use Rattle.std.specs.Prelude.{ℕ, Bool, List, [], ◌++◌, ℤ, Option, Some, None, ◌==◌, ◌&&◌, cond, codes, nat_lt, decimal, length, unsigned_abs}
-use Rattle.amounts.specs.SumsOfWhole.{sum_z}
 use Rattle.iso.specs.Written.{month_written}
+use Rattle.journal.specs.Figures.{sum_of_lots, sum_of_cash}
 use Rattle.ledger.specs.Calls.{known}
 use Rattle.ledger.specs.History.{History, net, booked, final}
 use Rattle.ledger.specs.Ledger.{held, at_last, at_final}
@@ -18,7 +18,7 @@ line sentence = sentence ++ codes "\n"
 
 -- a class of the terms in which the lots of all accounts sum to zero
 abbrev pub even : Meaning → State → ℕ → Bool
-even w s c = nat_lt c w.classes && unsigned_abs (sum_z s.accounts (λ a. s.lots a c)) == 0
+even w s c = nat_lt c w.classes && unsigned_abs (sum_of_lots s c) == 0
 
 -- how many such classes there are
 abbrev pub even_classes : Meaning → State → ℕ
@@ -30,7 +30,7 @@ sums_told even classes cash =
     codes "over all accounts: lots sum to zero in " ++ (decimal even ++ (codes " of " ++ (decimal classes ++ (codes " classes; cash sums to " ++ (signed_decimal cash ++ codes " cents")))))
 
 abbrev pub sums_text : Meaning → State → List ℕ
-sums_text w s = line (sums_told (even_classes w s) w.classes (sum_z s.accounts s.cash))
+sums_text w s = line (sums_told (even_classes w s) w.classes (sum_of_cash s))
 
 -- ---- of one account
 
@@ -58,13 +58,13 @@ unfoldable pub cash_told : ℕ → ℤ → ℤ → ℤ → ℤ → List ℕ
 cash_told a at_last at_final booked cash =
     codes "account " ++ (decimal a ++ (codes ": holdings at last prices " ++ (signed_decimal at_last ++ (codes ", plus settled months at final prices " ++ (signed_decimal at_final ++ (codes ", less trades at cost " ++ (signed_decimal booked ++ (codes "; cash " ++ (signed_decimal cash ++ codes " cents")))))))))
 
--- by the terms, the start month and the history, as the law has it
-module _ (w : Meaning) (start : ℕ) (h : History) (s : State) (a : ℕ) where
+-- by the terms, the history and what the book holds, as the law has it
+module _ (w : Meaning) (h : History) (s : State) (a : ℕ) where
   abbrev pub month_text : ℕ → List ℕ
-  month_text m = month_line a m (net w start h a m) (held w start h s a m) (final w start h m)
+  month_text m = month_line a m (net w s.made.month h a m) (held w h s a m) (final w s.made.month h m)
 
   abbrev pub cash_text : List ℕ
-  cash_text = line (cash_told a (at_last w start h s a) (at_final w start h s a) (booked w start h a) (s.cash a))
+  cash_text = line (cash_told a (at_last w h s a) (at_final w h s a) (booked w s.made.month h a) (s.rows a).cash)
 
   -- all its months
   unfoldable pub months_text : List ℕ
@@ -75,5 +75,5 @@ module _ (w : Meaning) (start : ℕ) (h : History) (s : State) (a : ℕ) where
   account_text = months_text ++ cash_text
 
 -- of an account that the book does not have, nothing is told
-abbrev pub known_text : Meaning → ℕ → History → State → ℕ → List ℕ
-known_text w start h s a = cond (known s a) (account_text w start h s a) []
+abbrev pub known_text : Meaning → History → State → ℕ → List ℕ
+known_text w h s a = cond (known s a) (account_text w h s a) []

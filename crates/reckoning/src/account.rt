@@ -1,12 +1,10 @@
 // Of one account.
-ghost use Rattle.std.specs.Prelude.{◌≡◌, ◌++◌, ◌<◌, IfOk, Some, None, reverse, string_bytes};
-ghost use Rattle.book.specs.Tables.{view};
-ghost use Rattle.journal.specs.Lived.{Lived};
-ghost use Rattle.journal.specs.Statements.{States};
+ghost use Rattle.std.specs.Prelude.{◌≡◌, ◌++◌, ◌<◌, IfOk, Some, None, string_bytes};
+ghost use Rattle.journal.specs.Journals.{meaning_of, state_of, history_of, unknown, held_in_month, Lives, Stated};
 ghost use Rattle.ledger.specs.History.{net, booked, final};
-ghost use Rattle.ledger.specs.Ledger.{held, at_last, at_final};
-ghost use Rattle.ledger.specs.Questions.{cash_refusal};
-ghost use Rattle.reckoning.specs.Reckonings.{line, settled_told, place_told, month_told, month_line, month_text, months_text, cash_told, cash_text, account_text, known_text};
+ghost use Rattle.ledger.specs.Ledger.{at_last, at_final};
+ghost use Rattle.reckoning.specs.Reckonings.{line, settled_told, place_told, month_told, month_line, cash_told};
+ghost use Rattle.reckoning.specs.Tellings.{month_of, months_of, cash_of, account_of, reckoned};
 
 use iso::IsoMonth;
 use journal::{Journal, Statement};
@@ -106,8 +104,8 @@ fn write_month(text: &mut String, month: MonthLine) -> Result<(), AllocError>
 
 // What an account holds in a month.
 fn held<T: Terms>(journal: &Journal<T>, account: u32, month: u32) -> i128
-    requires { cash_refusal (view journal.now.book.tables) account ≡ None }
-    ensures { result ≡ held (T.meaning journal.now.book.terms) journal.now.month (reverse journal.now.entries.items) (view journal.now.book.tables) account month }
+    requires { unknown journal.now account ≡ None }
+    ensures { result ≡ held_in_month journal.now account month }
 {
     journal.held(account, month).unwrap_or(0)
 }
@@ -119,12 +117,12 @@ fn month_line<T: Terms>(
     account: u32,
     month: u32,
 ) -> MonthLine
-    requires states { States (T.meaning journal.now.book.terms) journal.now.month journal.now.entries.items journal.now.book.tables account statement.now }
-    requires known { (cash_refusal (view journal.now.book.tables) account ≡ None) × (month < 1200) }
+    requires states { Stated journal.now account statement.now }
+    requires known { (unknown journal.now account ≡ None) × (month < 1200) }
     ensures place { (result.account ≡ account) × (result.month ≡ month) }
-    ensures bought { result.bought ≡ net (T.meaning journal.now.book.terms) journal.now.month (reverse journal.now.entries.items) account month }
-    ensures holds { result.holds ≡ held (T.meaning journal.now.book.terms) journal.now.month (reverse journal.now.entries.items) (view journal.now.book.tables) account month }
-    ensures price { result.price ≡ final (T.meaning journal.now.book.terms) journal.now.month (reverse journal.now.entries.items) month }
+    ensures bought { result.bought ≡ net (meaning_of journal.now) (state_of journal.now).made.month (history_of journal.now) account month }
+    ensures holds { result.holds ≡ held_in_month journal.now account month }
+    ensures price { result.price ≡ final (meaning_of journal.now) (state_of journal.now).made.month (history_of journal.now) month }
 {
     MonthLine {
         account,
@@ -143,9 +141,9 @@ fn tell_month<T: Terms>(
     account: u32,
     month: u32,
 ) -> Result<(), AllocError>
-    requires states { States (T.meaning journal.now.book.terms) journal.now.month journal.now.entries.items journal.now.book.tables account statement.now }
-    requires known { (cash_refusal (view journal.now.book.tables) account ≡ None) × (month < 1200) }
-    ensures { IfOk result (λ u. string_bytes text.new ≡ string_bytes text.old ++ month_text (T.meaning journal.now.book.terms) journal.now.month (reverse journal.now.entries.items) (view journal.now.book.tables) account month) }
+    requires states { Stated journal.now account statement.now }
+    requires known { (unknown journal.now account ≡ None) × (month < 1200) }
+    ensures { IfOk result (λ u. string_bytes text.new ≡ string_bytes text.old ++ month_of journal.now account month) }
 {
     write_month(text, month_line(journal, statement, account, month))
 }
@@ -157,9 +155,9 @@ fn tell_months<T: Terms>(
     statement: &Statement,
     account: u32,
 ) -> Result<(), AllocError>
-    requires states { States (T.meaning journal.now.book.terms) journal.now.month journal.now.entries.items journal.now.book.tables account statement.now }
-    requires known { cash_refusal (view journal.now.book.tables) account ≡ None }
-    ensures { IfOk result (λ u. string_bytes text.new ≡ string_bytes text.old ++ months_text (T.meaning journal.now.book.terms) journal.now.month (reverse journal.now.entries.items) (view journal.now.book.tables) account) }
+    requires states { Stated journal.now account statement.now }
+    requires known { unknown journal.now account ≡ None }
+    ensures { IfOk result (λ u. string_bytes text.new ≡ string_bytes text.old ++ months_of journal.now account) }
 {
     for month in 0..1200 {
         tell_month(text, journal, statement, account, month)?;
@@ -205,21 +203,21 @@ fn write_cash(text: &mut String, cash: CashLine) -> Result<(), AllocError>
 
 // What an account has in cash.
 fn cash_of<T: Terms>(journal: &Journal<T>, account: u32) -> i64
-    requires { cash_refusal (view journal.now.book.tables) account ≡ None }
-    ensures { result ≡ (view journal.now.book.tables).cash account }
+    requires { unknown journal.now account ≡ None }
+    ensures { result ≡ ((state_of journal.now).rows account).cash }
 {
     journal.book().cash(account).unwrap_or(0)
 }
 
 // An account's cash, by its statement.
 fn cash_line<T: Terms>(journal: &Journal<T>, statement: &Statement, account: u32) -> CashLine
-    requires states { States (T.meaning journal.now.book.terms) journal.now.month journal.now.entries.items journal.now.book.tables account statement.now }
-    requires known { cash_refusal (view journal.now.book.tables) account ≡ None }
+    requires states { Stated journal.now account statement.now }
+    requires known { unknown journal.now account ≡ None }
     ensures account { result.account ≡ account }
-    ensures at_last { result.at_last ≡ at_last (T.meaning journal.now.book.terms) journal.now.month (reverse journal.now.entries.items) (view journal.now.book.tables) account }
-    ensures at_final { result.at_final ≡ at_final (T.meaning journal.now.book.terms) journal.now.month (reverse journal.now.entries.items) (view journal.now.book.tables) account }
-    ensures booked { result.booked ≡ booked (T.meaning journal.now.book.terms) journal.now.month (reverse journal.now.entries.items) account }
-    ensures cash { result.cash ≡ (view journal.now.book.tables).cash account }
+    ensures at_last { result.at_last ≡ at_last (meaning_of journal.now) (history_of journal.now) (state_of journal.now) account }
+    ensures at_final { result.at_final ≡ at_final (meaning_of journal.now) (history_of journal.now) (state_of journal.now) account }
+    ensures booked { result.booked ≡ booked (meaning_of journal.now) (state_of journal.now).made.month (history_of journal.now) account }
+    ensures cash { result.cash ≡ ((state_of journal.now).rows account).cash }
 {
     CashLine {
         account,
@@ -237,9 +235,9 @@ fn tell_cash<T: Terms>(
     statement: &Statement,
     account: u32,
 ) -> Result<(), AllocError>
-    requires states { States (T.meaning journal.now.book.terms) journal.now.month journal.now.entries.items journal.now.book.tables account statement.now }
-    requires known { cash_refusal (view journal.now.book.tables) account ≡ None }
-    ensures { IfOk result (λ u. string_bytes text.new ≡ string_bytes text.old ++ cash_text (T.meaning journal.now.book.terms) journal.now.month (reverse journal.now.entries.items) (view journal.now.book.tables) account) }
+    requires states { Stated journal.now account statement.now }
+    requires known { unknown journal.now account ≡ None }
+    ensures { IfOk result (λ u. string_bytes text.new ≡ string_bytes text.old ++ cash_of journal.now account) }
 {
     write_cash(text, cash_line(journal, statement, account))
 }
@@ -251,22 +249,23 @@ fn tell_known<T: Terms>(
     statement: &Statement,
     account: u32,
 ) -> Result<(), AllocError>
-    requires states { States (T.meaning journal.now.book.terms) journal.now.month journal.now.entries.items journal.now.book.tables account statement.now }
-    requires known { cash_refusal (view journal.now.book.tables) account ≡ None }
-    ensures { IfOk result (λ u. string_bytes text.new ≡ string_bytes text.old ++ account_text (T.meaning journal.now.book.terms) journal.now.month (reverse journal.now.entries.items) (view journal.now.book.tables) account) }
+    requires states { Stated journal.now account statement.now }
+    requires known { unknown journal.now account ≡ None }
+    ensures { IfOk result (λ u. string_bytes text.new ≡ string_bytes text.old ++ account_of journal.now account) }
 {
     tell_months(text, journal, statement, account)?;
     tell_cash(text, journal, statement, account)
 }
 
-// The months of an account in which it has bought more or less than it sold, and its cash, behind what was told before.
+/// The months of an account in which it has bought more or less than it sold, and its cash, behind what was told before;
+/// nothing of an account that the book does not have.
 pub fn tell_account<T: Terms>(
     text: &mut String,
     journal: &Journal<T>,
     account: u32,
 ) -> Result<(), AllocError>
-    ensures text { IfOk result (λ u. string_bytes text.new ≡ string_bytes text.old ++ known_text (T.meaning journal.now.book.terms) journal.now.month (reverse journal.now.entries.items) (view journal.now.book.tables) account) }
-    ensures law { ∥ Lived (T.meaning journal.now.book.terms) journal.now.month journal.now.entries.items journal.now.book.tables ∥₁ }
+    ensures text { IfOk result (λ u. string_bytes text.new ≡ string_bytes text.old ++ reckoned journal.now account) }
+    ensures law { ∥ Lives journal.now ∥₁ }
 {
     let Ok(statement) = journal.statement(account) else {
         return Ok(());

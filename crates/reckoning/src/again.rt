@@ -1,8 +1,6 @@
 // The calls of a journal, handed over once more as one list.
-ghost use Rattle.std.specs.Prelude.{◌≡◌, IfOk, IfSome, IsSome, MatchOption, None};
-ghost use Rattle.book.specs.Tables.{view};
-ghost use Rattle.ledger.specs.Make.{make_refusal};
-ghost use Rattle.reckoning.specs.Again.{answer_number, differing, Again};
+ghost use Rattle.std.specs.Prelude.{◌≡◌, IfOk, IfSome, IfNone, IsSome, None};
+ghost use Rattle.reckoning.specs.Again.{answer_number, differing, refused, Differ, Same};
 
 use book::Book;
 use coded::ClassLine;
@@ -29,8 +27,8 @@ fn differing(first: &[Entry], second: &[Entry]) -> usize
         .count()
 }
 
-// How many calls of a journal get another answer from a new book over such terms, when they are handed to it as one list; none
-// where no such book can be made.
+/// How many calls of a journal get another answer from a new book over such terms, when they are handed to it as one list;
+/// none where no such book can be made.
 pub fn differing_answers<T: Terms>(
     heap: Global,
     journal: &Journal<T>,
@@ -40,9 +38,10 @@ pub fn differing_answers<T: Terms>(
 ) -> Result<Option<usize>, AllocError>
 where
     T: Drop,
-    ensures made { IfOk result (λ o. MatchOption o (IsSome (make_refusal (T.meaning terms) month (view journal.now.book.tables).accounts lines.now)) (λ n. make_refusal (T.meaning terms) month (view journal.now.book.tables).accounts lines.now ≡ None)) }
-    ensures counts { IfOk result (λ o. IfSome o (λ n. ∥ Again (T.meaning terms) month (view journal.now.book.tables).accounts lines.now journal.now.entries.items n ∥₁)) }
-    ensures same { T.meaning terms ≡ T.meaning journal.now.book.terms → month ≡ journal.now.month → IfOk result (λ o. IfSome o (λ n. n ≡ 0)) }
+    ensures made { IfOk result (λ o. IfSome o (λ n. refused journal.now terms month lines.now ≡ None)) }
+    ensures refused { IfOk result (λ o. IfNone o (IsSome (refused journal.now terms month lines.now))) }
+    ensures counts { IfOk result (λ o. IfSome o (Differ journal.now terms month lines.now)) }
+    ensures same { Same journal.now terms month → IfOk result (λ o. IfSome o (λ n. n ≡ 0)) }
 {
     let mut again = journal.entries().to_vec(heap)?;
     let accounts = journal.book().accounts();

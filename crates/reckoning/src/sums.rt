@@ -1,7 +1,8 @@
 // Over all accounts.
 ghost use Rattle.std.specs.Prelude.{◌≡◌, ◌++◌, IfOk, Some, string_bytes};
-ghost use Rattle.book.specs.Tables.{view};
-ghost use Rattle.reckoning.specs.Reckonings.{line, even, even_classes, sums_told, sums_text};
+ghost use Rattle.book.specs.Books.{book_of, meaning_of};
+ghost use Rattle.reckoning.specs.Reckonings.{line, even, even_classes, sums_told};
+ghost use Rattle.reckoning.specs.Tellings.{sums_of};
 
 use book::Book;
 use journal::{cash_sum, lots_sum};
@@ -11,7 +12,7 @@ use terms::Terms;
 
 // Whether a class is one of the terms, and the lots of all accounts in it sum to zero.
 fn even<T: Terms>(book: &Book<T>, class: u32) -> bool
-    ensures { result ≡ even (T.meaning book.now.terms) (view book.now.tables) class }
+    ensures { result ≡ even (meaning_of book.now) (book_of book.now) class }
 {
     match lots_sum(book, class) {
         Ok(sum) => sum == 0,
@@ -21,7 +22,7 @@ fn even<T: Terms>(book: &Book<T>, class: u32) -> bool
 
 // How many such classes there are.
 fn even_classes<T: Terms>(book: &Book<T>) -> usize
-    ensures { result ≡ even_classes (T.meaning book.now.terms) (view book.now.tables) }
+    ensures { result ≡ even_classes (meaning_of book.now) (book_of book.now) }
 {
     (0..book.terms().classes())
         .filter(|&class| even(book, class))
@@ -60,9 +61,9 @@ fn write_sums(text: &mut String, sums: Sums) -> Result<(), AllocError>
     writeln!(text, "{sums}")
 }
 
-// The sums over all accounts, of the lots in each class and of the cash, behind what was told before.
+/// The sums over all accounts, of the lots in each class and of the cash, behind what was told before.
 pub fn tell_sums<T: Terms>(text: &mut String, book: &Book<T>) -> Result<(), AllocError>
-    ensures { IfOk result (λ u. string_bytes text.new ≡ string_bytes text.old ++ sums_text (T.meaning book.now.terms) (view book.now.tables)) }
+    ensures { IfOk result (λ u. string_bytes text.new ≡ string_bytes text.old ++ sums_of book.now) }
 {
     let sums = Sums {
         even: even_classes(book),

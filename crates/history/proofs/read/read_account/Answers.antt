@@ -21,6 +21,6 @@ read-requires g c =
     let i = c.loop-entry.entry-index in
     omega (arith, c.loop-entry.invariant.calls, length-reverse (take i c.args.entries.now), length-take i c.args.entries.now, c.loop-entry-test.true, c.if-entries-gt-MOST_CALLS.false)
 
-pub returns : goal.returns
-returns g c =
+pub returns-clause-told : goal.returns-clause-told
+returns-clause-told g c =
     subst (λ (l : List Entry). Told (g.T.Terms.meaning c.args.terms.now) c.args.month (reverse l) c.args.account c.loop-entry.reading) (take_all c.loop-entry.entry-index c.args.entries.now c.loop-entry-test.false) c.loop-entry.invariant
