@@ -1,5 +1,5 @@
 -- A close of accounts in a list is the rule's. Assumes nothing.
-use Rattle.std.proofs.Common.{◌≡◌, ℕ, ◌<◌, ◌≤◌, Bool, true, false, cond, List, length, get_or, ℤ, pos, ◌+ℤ◌, ◌-ℤ◌, ◌*ℤ◌, nat_abs, Option, Some, None, sym, refl, ap, ◌∙◌, subst, ⊎_elim, arith}
+use Rattle.std.proofs.Common.{◌≡◌, ℕ, ◌<◌, ◌≤◌, Bool, true, false, cond, List, length, get_or, ℤ, pos, ◌+ℤ◌, ◌-ℤ◌, ◌*ℤ◌, nat_abs, sym, refl, ap, ◌∙◌, subst, ⊎_elim, arith}
 use lib.IntN.{zero-*ℤ}
 use Rattle.amounts.proofs.Sums.{sum_same, sum-nil}
 use Rattle.amounts.specs.Amounts.{variation, part_payment}
@@ -8,7 +8,7 @@ use Rattle.book.proofs.AccountRows.{row-here}
 use Rattle.book.proofs.Places.{no-parts}
 use Rattle.book.proofs.Settles.{rows-past}
 use Rattle.book.specs.Quotes.{quote_at, quote_on, quote_pay}
-use Rattle.book.specs.Rows.{row_of, rows_of, parts_pay_at, Flagged}
+use Rattle.book.specs.Rows.{rows_of, parts_pay_at, Flagged}
 use Rattle.book.specs.declared.account.Account.{Account}
 use Rattle.book.specs.declared.quotes.Quote.{Quote}
 use Rattle.day_table.specs.Table.{day_in}

@@ -13,3 +13,4 @@ pub mod Fresh
 pub mod Settles
 pub mod Replays
 pub mod Closes
+pub mod Stays

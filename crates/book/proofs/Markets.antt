@@ -1,5 +1,5 @@
 -- A price table that is written. Assumes nothing.
-use Rattle.std.proofs.Common.{◌≡◌, ℕ, ◌<◌, cond, eqb, List, length, get_or, set, Option, Some, None, ℤ, sym, refl, ap, ◌∙◌, ⊎_elim, get_or-set_other}
+use Rattle.std.proofs.Common.{◌≡◌, ℕ, ◌<◌, cond, eqb, List, length, set, Option, None, ℤ, sym, ap, ◌∙◌, ⊎_elim, get_or-set_other}
 use Rattle.std.proofs.lemmas.Bool.{cases_eq}
 use Rattle.std.proofs.lemmas.Grind.{get_or-set_at}
 use Rattle.book.specs.Markets.{cents_in, prices_at, market_of}

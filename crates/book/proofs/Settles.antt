@@ -1,5 +1,5 @@
 -- A settle of accounts in a list is the rule's. Assumes nothing.
-use Rattle.std.proofs.Common.{◌≡◌, ℕ, ◌<◌, ◌≤◌, true, eqb, List, ◌++◌, drop, map, length, get_or, ℤ, pos, ◌+ℤ◌, nat_abs, Option, Some, None, sym, ap, ◌∙◌, ⊎_elim, arith}
+use Rattle.std.proofs.Common.{◌≡◌, ℕ, ◌<◌, ◌≤◌, true, List, ◌++◌, drop, map, length, ℤ, pos, ◌+ℤ◌, nat_abs, Some, sym, ap, ◌∙◌, ⊎_elim, arith}
 use Rattle.amounts.specs.Amounts.{final_payment}
 use Rattle.book.specs.Rows.{row_of, rows_of, row_paid, CashFits}
 use Rattle.book.specs.declared.account.Account.{Account}
@@ -8,7 +8,7 @@ use Rattle.ledger.proofs.Tests.{all-each, all_same}
 use Rattle.ledger.specs.Calls.{settle_pay, row_settled, cash_fits}
 use Rattle.ledger.specs.Questions.{payment_lines, written}
 use Rattle.ledger.specs.State.{Market, Row, nil_row}
-use Rattle.ledger.specs.Words.{all_below, at, or_zero, put}
+use Rattle.ledger.specs.Words.{all_below, at, or_zero}
 use Rattle.ledger.specs.declared.call.Call.TheVariants.{Settle}
 use Rattle.ledger.specs.declared.payment.Payment.{Payment}
 use Rattle.std.proofs.lemmas.Bool.{cases_lt}

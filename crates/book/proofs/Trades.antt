@@ -1,12 +1,12 @@
 -- A trade whose questions were answered yes. Assumes nothing.
-use Rattle.std.proofs.Common.{◌≡◌, ℕ, ◌<◌, ◌≤◌, ◌*◌, true, not, eqb, List, length, ℤ, pos, ◌+ℤ◌, ◌-ℤ◌, ◌*ℤ◌, neg_ℤ, nat_abs, None, sym, ap, ◌∙◌, arith}
+use Rattle.std.proofs.Common.{◌≡◌, ℕ, ◌<◌, ◌≤◌, ◌*◌, true, List, length, ℤ, pos, ◌+ℤ◌, ◌-ℤ◌, ◌*ℤ◌, neg_ℤ, nat_abs, None, arith}
 use Rattle.amounts.proofs.Ring.{product_le}
 use Rattle.arrayvec.proofs.ArrayVecLemmas.{items-with_items}
-use Rattle.book.specs.Rows.{rows_of, Room}
+use Rattle.book.specs.Rows.{Room}
 use Rattle.book.specs.declared.account.Account.{Account}
 use Rattle.ledger.proofs.Keeping.{price-size}
 use Rattle.ledger.proofs.Trading.{may-trade}
-use Rattle.ledger.specs.Calls.{lots_fit, price_fits, refusal}
+use Rattle.ledger.specs.Calls.{lots_fit, refusal}
 use Rattle.ledger.specs.Ledger.{Keeps}
 use Rattle.ledger.specs.State.{State}
 use Rattle.ledger.specs.Words.{within}

@@ -1,16 +1,23 @@
 -- What a book holds, and what a call makes of it. Assumes nothing.
-use Rattle.std.specs.Prelude.{List, Option}
+use Rattle.std.specs.Prelude.{ℕ, List, ℤ, Option, Result}
 use Rattle.book.specs.Stores.{terms_in, state_in}
 use Rattle.book.specs.declared.book.Book.{Book}
+use Rattle.coded.specs.declared.class_line.ClassLine.{ClassLine}
 use Rattle.ledger.specs.Calls.{refusal, after}
 use Rattle.ledger.specs.Ledger.{LivesOn}
-use Rattle.ledger.specs.Questions.{list_after}
+use Rattle.ledger.specs.Make.{made_of, make_refusal}
+use Rattle.ledger.specs.Questions.{margins_refusal, margins, holding_refusal, holding, cash_refusal, cash, list_after}
 use Rattle.ledger.specs.State.{State}
+use Rattle.ledger.specs.Words.{reply}
 use Rattle.ledger.specs.declared.call.Call.{Call}
 use Rattle.ledger.specs.declared.fault.Fault.{Fault}
 use Rattle.ledger.specs.declared.payment.Payment.{Payment}
 use Rattle.terms.specs.Meaning.{Meaning}
 use Rattle.terms.specs.declared.terms.Terms.{Ghosts}
+
+-- the question of a make that is answered no, if one is
+abbrev pub refused_make : Meaning → ℕ → ℕ → List ClassLine → Option Fault
+refused_make w month accounts lines = make_refusal w (made_of month accounts lines)
 
 module _ {T : Type 0} {g : Ghosts T} where
   -- the terms that a book was made over, and what they mean
@@ -37,3 +44,13 @@ module _ {T : Type 0} {g : Ghosts T} where
   -- whatever history a book has had, a call adds itself and its answer to it
   abbrev pub GoesOn : Book T g → Call → Book T g → Type 0
   GoesOn b call c = LivesOn (meaning_of b) (book_of b) call (book_of c)
+
+  -- the answers of the calls that only ask
+  abbrev pub margins_answer : Book T g → ℕ → Result ℤ Fault
+  margins_answer b a = reply (margins_refusal (meaning_of b) (book_of b) a) (margins (meaning_of b) (book_of b) a)
+
+  abbrev pub holding_answer : Book T g → ℕ → ℕ → Result ℤ Fault
+  holding_answer b a c = reply (holding_refusal (meaning_of b) (book_of b) a c) (holding (book_of b) a c)
+
+  abbrev pub cash_answer : Book T g → ℕ → Result ℤ Fault
+  cash_answer b a = reply (cash_refusal (book_of b) a) (cash (book_of b) a)

@@ -1,15 +1,15 @@
 // Close: the end of a day.
-ghost use Rattle.std.specs.Prelude.{◌≡◌, ℕ, ◌<◌, ◌≤◌, true, length, map, None, Some, Ok, cond, ◌&&◌, not, is_some, IfOk, MatchResult, unsigned_abs, slice_index_or};
+ghost use Rattle.std.specs.Prelude.{◌≡◌, ℕ, ◌<◌, ◌≤◌, true, length, pos, None, Some, Ok, cond, ◌&&◌, is_some, IfOk, MatchResult, slice_index_or};
 ghost use Rattle.book.specs.Books.{book_of, terms_of, refused, left, listed, GoesOn};
 ghost use Rattle.book.specs.Markets.{cents_in, market_of};
-ghost use Rattle.book.specs.Rows.{rows_of, CashFits, Known};
-ghost use Rattle.book.specs.Stores.{meaning_in, state_in, terms_in, Ready};
-ghost use Rattle.day_table.specs.Table.{day_in, table_of};
-ghost use Rattle.ledger.specs.Calls.{refusal, done, after, all_rows, lots_fit, after_parts, newest, by_end, close_pay, today};
-ghost use Rattle.ledger.specs.Questions.{list_after, written};
+ghost use Rattle.book.specs.Rows.{rows_of, row_carried, row_credited, CashFits, Flagged, Known};
+ghost use Rattle.book.specs.Stores.{meaning_in, state_in, terms_in, Ready, day_in_store, accounts_in, refused_in, done_in, left_in, listed_in, Pays};
+ghost use Rattle.day_table.specs.Table.{day_in};
+ghost use Rattle.ledger.specs.Calls.{refusal, after, all_rows, lots_fit, after_parts, newest, by_end, close_pay, today};
 ghost use Rattle.ledger.specs.Words.{all_below, from, reply, at};
 ghost use Rattle.ledger.specs.declared.call.Call.TheVariants.{Close};
 
+use crate::account::Account;
 use crate::accounts::{
     all_keep_limit, carry_all, close_all, pays_with_parts, variation_pays, write_lines,
 };
@@ -38,7 +38,12 @@ fn is_priced(day: &DayTable, prices: &[Prices; 12], class: usize) -> bool
 }
 
 // What a class has from the one that it succeeds: its newest price and its repricing.
-fn handed(day: &DayTable, prices: &[Prices; 12], sources: &[Option<u32>; 12], class: usize) -> Prices
+fn handed(
+    day: &DayTable,
+    prices: &[Prices; 12],
+    sources: &[Option<u32>; 12],
+    class: usize,
+) -> Prices
     requires { (class < 12) × (Known 12 sources.now) }
     ensures last { cents_in result.last ≡ from (slice_index_or sources.now class None) None (newest (day_in day.now) (market_of 0 0 prices.now)) }
     ensures today { cents_in result.today ≡ None }
@@ -55,7 +60,13 @@ fn handed(day: &DayTable, prices: &[Prices; 12], sources: &[Option<u32>; 12], cl
 }
 
 // The prices of a class on the next day.
-fn carried_prices(day: &DayTable, next: &DayTable, prices: &[Prices; 12], sources: &[Option<u32>; 12], class: usize) -> Prices
+fn carried_prices(
+    day: &DayTable,
+    next: &DayTable,
+    prices: &[Prices; 12],
+    sources: &[Option<u32>; 12],
+    class: usize,
+) -> Prices
     requires { (class < 12) × (Known 12 sources.now) }
     ensures last { cents_in result.last ≡ from (slice_index_or sources.now class None) None (newest (day_in day.now) (market_of 0 0 prices.now)) }
     ensures today { cents_in result.today ≡ None }
@@ -87,10 +98,44 @@ fn all_carried_prices(
     array::from_fn(|class| carried_prices(day, next, prices, sources, class))
 }
 
+// The lots of each account go on to the next open day; where every class succeeds itself they stay where they are.
+fn carry_accounts(accounts: &mut [Account], day: &DayTable, sources: &[Option<u32>; 12])
+    requires known { Known day.now.classes sources.now }
+    requires day { (day.now.classes ≤ 12) × (Flagged day.now) }
+    requires keeps { (a : ℕ) → a < length accounts.old → all_below day.now.classes (λ c. lots_fit (after_parts (day_in day.now) (rows_of accounts.old a) c)) ≡ true }
+    requires stays { day.now.all_stay ≡ true → (a t : ℕ) → a < length accounts.old → from (slice_index_or sources.now t None) (pos 0) (after_parts (day_in day.now) (rows_of accounts.old a)) ≡ (rows_of accounts.old a).lots t }
+    ensures long { length accounts.new ≡ length accounts.old }
+    ensures rows { (a : ℕ) → a < length accounts.old → rows_of accounts.new a ≡ row_carried (day_in day.now) (λ t. slice_index_or sources.now t None) (rows_of accounts.old a) }
+{
+    if day.all_stay {
+        return;
+    }
+    carry_all(accounts, day, sources);
+}
+
+// Each account is paid, and its lots go on to the next open day.
+fn close_accounts(
+    accounts: &mut [Account],
+    pays: &[i64; 32],
+    day: &DayTable,
+    sources: &[Option<u32>; 12],
+)
+    requires pays { (length accounts.old ≤ 32) × (CashFits accounts.old pays.now) }
+    requires known { Known day.now.classes sources.now }
+    requires day { (day.now.classes ≤ 12) × (Flagged day.now) }
+    requires keeps { (a : ℕ) → a < length accounts.old → all_below day.now.classes (λ c. lots_fit (after_parts (day_in day.now) (rows_of accounts.old a) c)) ≡ true }
+    requires stays { day.now.all_stay ≡ true → (a t : ℕ) → a < length accounts.old → from (slice_index_or sources.now t None) (pos 0) (after_parts (day_in day.now) (rows_of accounts.old a)) ≡ (rows_of accounts.old a).lots t }
+    ensures long { length accounts.new ≡ length accounts.old }
+    ensures rows { (a : ℕ) → a < length accounts.old → rows_of accounts.new a ≡ row_carried (day_in day.now) (λ t. slice_index_or sources.now t None) (row_credited (at pays.now a) (rows_of accounts.old a)) }
+{
+    close_all(accounts, pays);
+    carry_accounts(accounts, day, sources);
+}
+
 impl<T: Terms> Store<T> {
     // Whether every tradable class has a price today.
     fn all_priced(&self) -> bool
-        ensures { result ≡ all_below (meaning_in self.now).classes (λ c. cond ((today (meaning_in self.now) (state_in self.now)).tradable c) (is_some ((state_in self.now).market.today c)) true) }
+        ensures { result ≡ all_below (meaning_in self.now).classes (λ c. cond ((day_in_store self.now).tradable c) (is_some ((state_in self.now).market.today c)) true) }
     {
         let day = self.day();
         (0..day.classes as usize).all(|class| is_priced(day, &self.tables.prices, class))
@@ -98,14 +143,14 @@ impl<T: Terms> Store<T> {
 
     // Whether another class succeeds to the settling class while that one has a last price.
     fn is_unsettled(&self) -> bool
-        ensures { result ≡ ((today (meaning_in self.now) (state_in self.now)).taken_over && is_some ((state_in self.now).market.last (meaning_in self.now).settling)) }
+        ensures { result ≡ ((day_in_store self.now).taken_over && is_some ((state_in self.now).market.last (meaning_in self.now).settling)) }
     {
         self.day().taken_over && self.settling_price().is_some()
     }
 
     // Whether every account stays within the limit after the parts; on a day without parts it does.
     fn keeps_limit(&self) -> bool
-        ensures { result ≡ all_rows (state_in self.now) (λ r. all_below (meaning_in self.now).classes (λ c. lots_fit (after_parts (today (meaning_in self.now) (state_in self.now)) r c))) }
+        ensures { result ≡ all_rows (state_in self.now) (λ r. all_below (meaning_in self.now).classes (λ c. lots_fit (after_parts (day_in_store self.now) r c))) }
     {
         let day = self.day();
         if !day.some_parts {
@@ -116,7 +161,7 @@ impl<T: Terms> Store<T> {
 
     // What each account is paid.
     fn close_pays(&self) -> [i64; 32]
-        ensures { (a : ℕ) → a < (state_in self.now).made.accounts → at result a ≡ close_pay (today (meaning_in self.now) (state_in self.now)) (state_in self.now).market ((state_in self.now).rows a) }
+        ensures { Pays self.now (close_pay (day_in_store self.now) (state_in self.now).market) result }
     {
         let day = self.day();
         let quotes = all_quotes(day, &self.tables.prices);
@@ -130,10 +175,10 @@ impl<T: Terms> Store<T> {
 
     // What each account is paid, where no question is answered no.
     fn may_close(&self, room: usize) -> Result<[i64; 32], Fault>
-        ensures answer { MatchResult result (λ pays. refusal (meaning_in self.now) (state_in self.now) (Close room) ≡ None) (λ f. refusal (meaning_in self.now) (state_in self.now) (Close room) ≡ Some f) }
-        ensures pays { IfOk result (λ pays. (a : ℕ) → a < (state_in self.now).made.accounts → at pays a ≡ close_pay (today (meaning_in self.now) (state_in self.now)) (state_in self.now).market ((state_in self.now).rows a)) }
+        ensures answer { MatchResult result (λ pays. refused_in self.now (Close room) ≡ None) (λ f. refused_in self.now (Close room) ≡ Some f) }
+        ensures pays { IfOk result (λ pays. Pays self.now (close_pay (day_in_store self.now) (state_in self.now).market) pays) }
         ensures fits { IfOk result (λ pays. CashFits self.now.tables.accounts.items pays) }
-        ensures room { IfOk result (λ pays. (state_in self.now).made.accounts ≤ room) }
+        ensures room { IfOk result (λ pays. accounts_in self.now ≤ room) }
     {
         if self.tables.accounts.len() > room {
             return Err(Fault::ListTooShort);
@@ -160,19 +205,16 @@ impl<T: Terms> Store<T> {
     // The accounts are paid, and lots and prices go on to the next open day, where all questions were answered yes.
     fn go_on(&mut self, pays: &[i64; 32])
         requires ready { Ready self.old }
-        requires may { refusal (meaning_in self.old) (state_in self.old) (Close (state_in self.old).made.accounts) ≡ None }
+        requires may { refused_in self.old (Close (accounts_in self.old)) ≡ None }
         requires fits { CashFits self.old.tables.accounts.items pays.now }
-        requires pays { (a : ℕ) → a < (state_in self.old).made.accounts → at pays.now a ≡ close_pay (today (meaning_in self.old) (state_in self.old)) (state_in self.old).market ((state_in self.old).rows a) }
+        requires pays { Pays self.old (close_pay (day_in_store self.old) (state_in self.old).market) pays.now }
         ensures terms { terms_in self.new ≡ terms_in self.old }
-        ensures state { (room : ℕ) → state_in self.new ≡ done (meaning_in self.old) (state_in self.old) (Close room) }
+        ensures state { (room : ℕ) → state_in self.new ≡ done_in self.old (Close room) }
     {
         let day = *self.day();
         let sources = day.sources();
         self.dated.go_to(day.next.unwrap_or(0));
-        close_all(&mut self.tables.accounts, pays);
-        if !day.all_stay {
-            carry_all(&mut self.tables.accounts, &day, &sources);
-        }
+        close_accounts(&mut self.tables.accounts, pays, &day, &sources);
         self.tables.prices = all_carried_prices(
             &day,
             self.dated.table(),
@@ -183,9 +225,9 @@ impl<T: Terms> Store<T> {
 
     fn close(&mut self, list: &mut [Payment]) -> Result<(), Fault>
         requires { Ready self.old }
-        ensures answer { result ≡ reply (refusal (meaning_in self.old) (state_in self.old) (Close (length list.old))) tt }
-        ensures after { state_in self.new ≡ after (meaning_in self.old) (state_in self.old) (Close (length list.old)) }
-        ensures list { list.new ≡ list_after (meaning_in self.old) (state_in self.old) (Close (length list.old)) list.old }
+        ensures answer { result ≡ reply (refused_in self.old (Close (length list.old))) tt }
+        ensures after { state_in self.new ≡ left_in self.old (Close (length list.old)) }
+        ensures list { list.new ≡ listed_in self.old (Close (length list.old)) list.old }
         ensures terms { terms_in self.new ≡ terms_in self.old }
     {
         let pays = self.may_close(list.len())?;

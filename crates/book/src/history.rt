@@ -1,8 +1,8 @@
 // A whole history: a book is made and handed a list of calls.
 ghost use Rattle.std.specs.Prelude.{◌≡◌, map, reverse, IfOk, IfErr, None, Some, MatchResult};
-ghost use Rattle.book.specs.Books.{book_of, meaning_of, terms_of, refused, left, listed, GoesOn};
+ghost use Rattle.book.specs.Books.{book_of, meaning_of, terms_of, refused, left, listed, GoesOn, refused_make};
 ghost use Rattle.ledger.specs.Ledger.{Life};
-ghost use Rattle.ledger.specs.Make.{made_of, make_refusal};
+ghost use Rattle.ledger.specs.Make.{made_of};
 ghost use Rattle.ledger.specs.Words.{reply};
 ghost use Rattle.ledger.specs.declared.call.Call.TheVariants.{Settle, Close};
 
@@ -86,9 +86,9 @@ impl<T: Terms> Book<T> {
         lines: &[ClassLine],
         entries: &mut [Entry],
     ) -> Result<Book<T>, NotMade<T>>
-        ensures made { IfOk result (λ b. make_refusal (T.meaning terms) (made_of month accounts lines.now) ≡ None) }
+        ensures made { IfOk result (λ b. refused_make (T.meaning terms) month accounts lines.now ≡ None) }
         ensures terms { MatchResult result (λ b. terms_of b ≡ terms) (λ e. e.terms ≡ terms) }
-        ensures refused { IfErr result (λ e. make_refusal (T.meaning terms) (made_of month accounts lines.now) ≡ Some e.fault) }
+        ensures refused { IfErr result (λ e. refused_make (T.meaning terms) month accounts lines.now ≡ Some e.fault) }
         ensures untouched { IfErr result (λ e. entries.new ≡ entries.old) }
         ensures calls { map (λ e. e.call) entries.new ≡ map (λ e. e.call) entries.old }
         ensures begun { IfOk result (λ b. (book_of b).made ≡ made_of month accounts lines.now) }

@@ -1,8 +1,8 @@
 // Make: a new book.
 ghost use Rattle.std.specs.Prelude.{◌≡◌, ◌≤◌, true, [], length, IfOk, IfErr, Some, None, Ok, MatchResult};
-ghost use Rattle.book.specs.Books.{book_of, meaning_of, terms_of};
+ghost use Rattle.book.specs.Books.{book_of, meaning_of, terms_of, refused_make};
 ghost use Rattle.book.specs.Lines.{line_fits, filled as filled_with};
-ghost use Rattle.book.specs.Stores.{meaning_in, state_in, terms_in};
+ghost use Rattle.book.specs.Stores.{state_in, terms_in};
 ghost use Rattle.ledger.specs.Ledger.{Life};
 ghost use Rattle.ledger.specs.Make.{lines_fit, made_of, make_refusal};
 ghost use Rattle.ledger.specs.State.{new_state, start_day};
@@ -84,7 +84,7 @@ fn start_day<T: Terms>(terms: &T, month: u32) -> u32
 impl<T: Terms> Store<T> {
     // A new store.
     fn made(terms: T, month: u32, accounts: u32, lines: &[ClassLine]) -> Self
-        requires { make_refusal (T.meaning terms) (made_of month accounts lines.now) ≡ None }
+        requires { refused_make (T.meaning terms) month accounts lines.now ≡ None }
         ensures terms { terms_in result ≡ terms }
         ensures state { state_in result ≡ new_state (T.meaning terms) (made_of month accounts lines.now) }
     {
@@ -118,10 +118,10 @@ impl<T: Terms> Book<T> {
         accounts: u32,
         lines: &[ClassLine],
     ) -> Result<Book<T>, NotMade<T>>
-        ensures made { IfOk result (λ b. make_refusal (T.meaning terms) (made_of month accounts lines.now) ≡ None) }
+        ensures made { IfOk result (λ b. refused_make (T.meaning terms) month accounts lines.now ≡ None) }
         ensures state { IfOk result (λ b. book_of b ≡ new_state (T.meaning terms) (made_of month accounts lines.now)) }
         ensures terms { MatchResult result (λ b. terms_of b ≡ terms) (λ e. e.terms ≡ terms) }
-        ensures refused { IfErr result (λ e. make_refusal (T.meaning terms) (made_of month accounts lines.now) ≡ Some e.fault) }
+        ensures refused { IfErr result (λ e. refused_make (T.meaning terms) month accounts lines.now ≡ Some e.fault) }
         ensures life { IfOk result (λ b. Life (meaning_of b) [] (book_of b)) }
     {
         if let Err(fault) = may_make(&terms, month, accounts, lines) {

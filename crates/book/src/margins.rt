@@ -1,9 +1,9 @@
 // Margins: an account's initial margins and mark-to-market margins.
 ghost use Rattle.std.specs.Prelude.{◌≡◌, ◌^◌, ◌<◌, ◌≤◌, true, Some, None, take, ◌+ℤ◌, is_some, if◌then◌else◌, nat_eq, unsigned_abs};
 ghost use Rattle.amounts.specs.SumsOfWhole.{sum_z};
-ghost use Rattle.book.specs.Books.{book_of, meaning_of};
+ghost use Rattle.book.specs.Books.{margins_answer};
 ghost use Rattle.book.specs.Markets.{cents_in};
-ghost use Rattle.book.specs.Stores.{meaning_in, state_in, Ready};
+ghost use Rattle.book.specs.Stores.{meaning_in, state_in, Ready, accounts_in};
 ghost use Rattle.ledger.specs.Make.{lines_fit};
 ghost use Rattle.ledger.specs.Questions.{held_priced, line_interval, interval_of, margin_price, repricing_of, margin_of, margin_in, margins as margins_of, margins_refusal};
 ghost use Rattle.ledger.specs.State.{class_now};
@@ -72,7 +72,7 @@ fn interval(lines: &[ClassLine; 12], classes: u32, class: u32) -> u16
 impl<T: Terms> Store<T> {
     // Whether an account's lots in a class, if it has any, have a last price.
     fn is_priced_for(&self, account: u32, class: u32) -> bool
-        requires { (account < (state_in self.now).made.accounts) × (class < 12) }
+        requires { (account < accounts_in self.now) × (class < 12) }
         ensures { result ≡ (if nat_eq (unsigned_abs (((state_in self.now).rows account).lots class)) 0 then true else is_some ((state_in self.now).market.last class)) }
     {
         self.tables.accounts[account as usize].lots(class) == 0
@@ -80,7 +80,7 @@ impl<T: Terms> Store<T> {
     }
 
     fn holds_priced(&self, account: u32) -> bool
-        requires { account < (state_in self.now).made.accounts }
+        requires { account < accounts_in self.now }
         ensures { result ≡ held_priced (meaning_in self.now) (state_in self.now) account }
     {
         (0..self.day().classes).all(|class| self.is_priced_for(account, class))
@@ -102,7 +102,7 @@ impl<T: Terms> Store<T> {
     // An account's margin in a class.
     fn margin_in(&self, account: u32, class: u32) -> i128
         requires ready { Ready self.now }
-        requires known { (account < (state_in self.now).made.accounts) × (class < 12) }
+        requires known { (account < accounts_in self.now) × (class < 12) }
         ensures is { result ≡ margin_in (meaning_in self.now) (state_in self.now) account class }
         ensures bound { unsigned_abs result ≤ 2 ^ 101 }
     {
@@ -120,7 +120,7 @@ impl<T: Terms> Store<T> {
     // The sum over all classes.
     fn margin_sum(&self, account: u32) -> i128
         requires ready { Ready self.now }
-        requires known { account < (state_in self.now).made.accounts }
+        requires known { account < accounts_in self.now }
         ensures { result ≡ sum_z (meaning_in self.now).classes (margin_in (meaning_in self.now) (state_in self.now) account) }
     {
         let mut sum = 0;
@@ -147,7 +147,7 @@ impl<T: Terms> Store<T> {
 impl<T: Terms> Book<T> {
     /// An account's total margin in cents, never positive: every class that it holds must have a last price.
     pub fn margins(&self, account: u32) -> Result<i128, Fault>
-        ensures { result ≡ reply (margins_refusal (meaning_of self.now) (book_of self.now) account) (margins_of (meaning_of self.now) (book_of self.now) account) }
+        ensures { result ≡ margins_answer self.now account }
     {
         self.store.margins(account)
     }

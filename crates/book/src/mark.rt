@@ -1,8 +1,8 @@
 // Mark and reprice: the prices that a caller sets.
 ghost use Rattle.std.specs.Prelude.{◌≡◌, ◌<◌, ◌≤◌, true, not, ◌&&◌, is_some, nat_lt, Ok};
 ghost use Rattle.book.specs.Books.{book_of, terms_of, refused, left, GoesOn};
-ghost use Rattle.book.specs.Stores.{meaning_in, state_in, terms_in};
-ghost use Rattle.ledger.specs.Calls.{refusal, after, today};
+ghost use Rattle.book.specs.Stores.{meaning_in, state_in, terms_in, day_in_store, refused_in, left_in};
+ghost use Rattle.ledger.specs.Calls.{after};
 ghost use Rattle.ledger.specs.Words.{reply};
 ghost use Rattle.ledger.specs.declared.call.Call.TheVariants.{Mark, Reprice};
 
@@ -15,15 +15,15 @@ use terms::Terms;
 
 impl<T: Terms> Store<T> {
     pub(crate) fn is_tradable(&self, class: u32) -> bool
-        ensures is { result ≡ (today (meaning_in self.now) (state_in self.now)).tradable class }
+        ensures is { result ≡ (day_in_store self.now).tradable class }
         ensures known { result ≡ true → class < 12 }
     {
         self.day().is_tradable(class)
     }
 
     fn mark(&mut self, class: u32, price: i32) -> Result<(), Fault>
-        ensures answer { result ≡ reply (refusal (meaning_in self.old) (state_in self.old) (Mark class price)) tt }
-        ensures after { state_in self.new ≡ after (meaning_in self.old) (state_in self.old) (Mark class price) }
+        ensures answer { result ≡ reply (refused_in self.old (Mark class price)) tt }
+        ensures after { state_in self.new ≡ left_in self.old (Mark class price) }
         ensures terms { terms_in self.new ≡ terms_in self.old }
     {
         if !self.is_tradable(class) {
@@ -38,7 +38,7 @@ impl<T: Terms> Store<T> {
 
     // Whether a class is a delivery class with a last price.
     fn is_repriceable(&self, class: u32) -> bool
-        ensures is { result ≡ (nat_lt class (meaning_in self.now).classes && (not ((today (meaning_in self.now) (state_in self.now)).tradable class) && is_some ((state_in self.now).market.last class))) }
+        ensures is { result ≡ (nat_lt class (meaning_in self.now).classes && (not ((day_in_store self.now).tradable class) && is_some ((state_in self.now).market.last class))) }
         ensures known { result ≡ true → class < 12 }
     {
         class < self.day().classes
@@ -47,8 +47,8 @@ impl<T: Terms> Store<T> {
     }
 
     fn reprice(&mut self, class: u32, price: i32) -> Result<(), Fault>
-        ensures answer { result ≡ reply (refusal (meaning_in self.old) (state_in self.old) (Reprice class price)) tt }
-        ensures after { state_in self.new ≡ after (meaning_in self.old) (state_in self.old) (Reprice class price) }
+        ensures answer { result ≡ reply (refused_in self.old (Reprice class price)) tt }
+        ensures after { state_in self.new ≡ left_in self.old (Reprice class price) }
         ensures terms { terms_in self.new ≡ terms_in self.old }
     {
         if !self.is_repriceable(class) {

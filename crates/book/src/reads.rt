@@ -1,8 +1,6 @@
 // The calls that only ask: holding, cash, day; and what the book was made over and has for prices.
 ghost use Rattle.std.specs.Prelude.{◌≡◌};
-ghost use Rattle.book.specs.Books.{book_of, meaning_of, terms_of};
-ghost use Rattle.ledger.specs.Questions.{holding_refusal, holding as holding_of, cash_refusal, cash as cash_of};
-ghost use Rattle.ledger.specs.Words.{reply};
+ghost use Rattle.book.specs.Books.{book_of, terms_of, holding_answer, cash_answer};
 
 use crate::book::Book;
 use crate::prices::Price;
@@ -56,7 +54,7 @@ impl<T: Terms> Book<T> {
 
     /// An account's cash in cents.
     pub fn cash(&self, account: u32) -> Result<i64, Fault>
-        ensures { result ≡ reply (cash_refusal (book_of self.now) account) (cash_of (book_of self.now) account) }
+        ensures { result ≡ cash_answer self.now account }
     {
         if !self.store.knows(account) {
             return Err(Fault::UnknownAccount);
@@ -66,7 +64,7 @@ impl<T: Terms> Book<T> {
 
     /// An account's lots in a class.
     pub fn holding(&self, account: u32, class: u32) -> Result<i32, Fault>
-        ensures { result ≡ reply (holding_refusal (meaning_of self.now) (book_of self.now) account class) (holding_of (book_of self.now) account class) }
+        ensures { result ≡ holding_answer self.now account class }
     {
         if !self.store.knows(account) {
             return Err(Fault::UnknownAccount);

@@ -2,9 +2,8 @@
 ghost use Rattle.std.specs.Prelude.{◌≡◌, ℕ, ℤ, ◌<◌, ◌≤◌, Some, length, None, IfOk, IfSome, MatchResult, unsigned_abs};
 ghost use Rattle.book.specs.Books.{book_of, terms_of, refused, left, listed, GoesOn};
 ghost use Rattle.book.specs.Rows.{CashFits};
-ghost use Rattle.book.specs.Stores.{meaning_in, state_in, terms_in, Ready};
-ghost use Rattle.ledger.specs.Calls.{refusal, done, after, today, settle_pay};
-ghost use Rattle.ledger.specs.Questions.{list_after, written};
+ghost use Rattle.book.specs.Stores.{meaning_in, state_in, terms_in, Ready, day_in_store, accounts_in, refused_in, done_in, left_in, listed_in, Pays};
+ghost use Rattle.ledger.specs.Calls.{refusal, after, settle_pay};
 ghost use Rattle.ledger.specs.Words.{reply, at};
 ghost use Rattle.ledger.specs.declared.call.Call.TheVariants.{Settle};
 
@@ -37,7 +36,7 @@ impl<T: Terms> Store<T> {
     fn settle_pays(&self, price: i32, last: i32) -> [i64; 32]
         requires small { (unsigned_abs price ≤ 100000) × (unsigned_abs last ≤ 100000) }
         requires last { (state_in self.now).market.last (meaning_in self.now).settling ≡ Some last }
-        ensures { (a : ℕ) → a < (state_in self.now).made.accounts → at result a ≡ settle_pay (today (meaning_in self.now) (state_in self.now)) (state_in self.now).market price ((state_in self.now).rows a) }
+        ensures { Pays self.now (settle_pay (day_in_store self.now) (state_in self.now).market price) result }
     {
         let class = self.settling();
         let quantity = self.day().quantity_of(class);
@@ -46,10 +45,10 @@ impl<T: Terms> Store<T> {
 
     // What each account is paid, where no question is answered no.
     fn may_settle(&self, price: i32, room: usize) -> Result<[i64; 32], Fault>
-        ensures answer { MatchResult result (λ pays. refusal (meaning_in self.now) (state_in self.now) (Settle price room) ≡ None) (λ f. refusal (meaning_in self.now) (state_in self.now) (Settle price room) ≡ Some f) }
-        ensures pays { IfOk result (λ pays. (a : ℕ) → a < (state_in self.now).made.accounts → at pays a ≡ settle_pay (today (meaning_in self.now) (state_in self.now)) (state_in self.now).market price ((state_in self.now).rows a)) }
+        ensures answer { MatchResult result (λ pays. refused_in self.now (Settle price room) ≡ None) (λ f. refused_in self.now (Settle price room) ≡ Some f) }
+        ensures pays { IfOk result (λ pays. Pays self.now (settle_pay (day_in_store self.now) (state_in self.now).market price) pays) }
         ensures fits { IfOk result (λ pays. CashFits self.now.tables.accounts.items pays) }
-        ensures room { IfOk result (λ pays. (state_in self.now).made.accounts ≤ room) }
+        ensures room { IfOk result (λ pays. accounts_in self.now ≤ room) }
     {
         if self.tables.accounts.len() > room {
             return Err(Fault::ListTooShort);
@@ -71,7 +70,7 @@ impl<T: Terms> Store<T> {
     fn pay_out(&mut self, pays: &[i64; 32])
         requires fits { CashFits self.old.tables.accounts.items pays.now }
         ensures terms { terms_in self.new ≡ terms_in self.old }
-        ensures state { (f : ℤ) (room : ℕ) → ((a : ℕ) → a < (state_in self.old).made.accounts → at pays.now a ≡ settle_pay (today (meaning_in self.old) (state_in self.old)) (state_in self.old).market f ((state_in self.old).rows a)) → state_in self.new ≡ done (meaning_in self.old) (state_in self.old) (Settle f room) }
+        ensures state { (f : ℤ) (room : ℕ) → (Pays self.old (settle_pay (day_in_store self.old) (state_in self.old).market f) pays.now) → state_in self.new ≡ done_in self.old (Settle f room) }
     {
         let class = self.settling();
         settle_all(&mut self.tables.accounts, class, pays);
@@ -80,9 +79,9 @@ impl<T: Terms> Store<T> {
 
     fn settle(&mut self, price: i32, list: &mut [Payment]) -> Result<(), Fault>
         requires { Ready self.old }
-        ensures answer { result ≡ reply (refusal (meaning_in self.old) (state_in self.old) (Settle price (length list.old))) tt }
-        ensures after { state_in self.new ≡ after (meaning_in self.old) (state_in self.old) (Settle price (length list.old)) }
-        ensures list { list.new ≡ list_after (meaning_in self.old) (state_in self.old) (Settle price (length list.old)) list.old }
+        ensures answer { result ≡ reply (refused_in self.old (Settle price (length list.old))) tt }
+        ensures after { state_in self.new ≡ left_in self.old (Settle price (length list.old)) }
+        ensures list { list.new ≡ listed_in self.old (Settle price (length list.old)) list.old }
         ensures terms { terms_in self.new ≡ terms_in self.old }
     {
         let pays = self.may_settle(price, list.len())?;

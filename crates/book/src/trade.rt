@@ -1,8 +1,8 @@
 // Trade: lots go from a seller to a buyer.
-ghost use Rattle.std.specs.Prelude.{◌≡◌, ◌<◌, ◌≤◌, true, not, ◌&&◌, ◌==◌, nat_lt, pos, ◌+ℤ◌, ◌-ℤ◌, neg_ℤ, Ok, unsigned_abs};
+ghost use Rattle.std.specs.Prelude.{◌≡◌, ◌<◌, ◌≤◌, true, ◌&&◌, ◌==◌, pos, ◌+ℤ◌, ◌-ℤ◌, Ok, unsigned_abs};
 ghost use Rattle.book.specs.Books.{book_of, terms_of, refused, left, GoesOn};
-ghost use Rattle.book.specs.Stores.{meaning_in, state_in, terms_in, Ready};
-ghost use Rattle.ledger.specs.Calls.{refusal, done, after, lots_fit};
+ghost use Rattle.book.specs.Stores.{state_in, terms_in, Ready, accounts_in, refused_in, done_in, left_in};
+ghost use Rattle.ledger.specs.Calls.{after, lots_fit};
 ghost use Rattle.ledger.specs.Words.{reply, within};
 ghost use Rattle.ledger.specs.declared.call.Call.TheVariants.{Trade};
 
@@ -25,7 +25,7 @@ fn may_trade_lots(lots: i32) -> bool
 impl<T: Terms> Store<T> {
     // Whether an account may take lots of a class; they are negative for a sale.
     fn may_take(&self, account: u32, class: u32, lots: i32) -> bool
-        requires known { (account < (state_in self.now).made.accounts) × (class < 12) }
+        requires known { (account < accounts_in self.now) × (class < 12) }
         requires small { unsigned_abs lots ≤ 1000 }
         ensures { result ≡ lots_fit (((state_in self.now).rows account).lots class +ℤ lots) }
     {
@@ -41,7 +41,7 @@ impl<T: Terms> Store<T> {
         lots: i32,
         price: i32,
     ) -> Result<(), Fault>
-        ensures is { result ≡ reply (refusal (meaning_in self.now) (state_in self.now) (Trade buyer seller class lots price)) tt }
+        ensures is { result ≡ reply (refused_in self.now (Trade buyer seller class lots price)) tt }
         ensures known { result ≡ Ok tt → class < 12 }
     {
         if !self.knows(buyer) {
@@ -78,9 +78,9 @@ impl<T: Terms> Store<T> {
     // A trade whose questions were all answered yes.
     fn exchange(&mut self, buyer: u32, seller: u32, class: u32, lots: i32, price: i32)
         requires ready { Ready self.old }
-        requires may { refusal (meaning_in self.old) (state_in self.old) (Trade buyer seller class lots price) ≡ None }
+        requires may { refused_in self.old (Trade buyer seller class lots price) ≡ None }
         requires known { class < 12 }
-        ensures after { state_in self.new ≡ done (meaning_in self.old) (state_in self.old) (Trade buyer seller class lots price) }
+        ensures after { state_in self.new ≡ done_in self.old (Trade buyer seller class lots price) }
         ensures terms { terms_in self.new ≡ terms_in self.old }
     {
         exchange(&mut self.tables.accounts, buyer, seller, class, lots, price);
@@ -96,8 +96,8 @@ impl<T: Terms> Store<T> {
         price: i32,
     ) -> Result<(), Fault>
         requires { Ready self.old }
-        ensures answer { result ≡ reply (refusal (meaning_in self.old) (state_in self.old) (Trade buyer seller class lots price)) tt }
-        ensures after { state_in self.new ≡ after (meaning_in self.old) (state_in self.old) (Trade buyer seller class lots price) }
+        ensures answer { result ≡ reply (refused_in self.old (Trade buyer seller class lots price)) tt }
+        ensures after { state_in self.new ≡ left_in self.old (Trade buyer seller class lots price) }
         ensures terms { terms_in self.new ≡ terms_in self.old }
     {
         self.may_trade(buyer, seller, class, lots, price)?;

@@ -1,10 +1,10 @@
 -- A book's day, its count of trades, its prices and its last prices are those that its history tells. Assumes nothing.
-use Rattle.std.proofs.Common.{◌≡◌, ℕ, ◌+◌, Bool, true, false, cond, ◌&&◌, [], ◌∷◌, ℤ, Some, None, Option, sym, refl, ap, ◌∙◌, ⊎_elim, arith}
+use Rattle.std.proofs.Common.{◌≡◌, ℕ, ◌+◌, Bool, cond, ◌&&◌, [], ◌∷◌, Some, None, Option, sym, refl, ◌∙◌, arith}
 use Rattle.calendars.proofs.Firsts.{none_found}
 use Rattle.calendars.specs.Walks.{first_from}
 use Rattle.ledger.proofs.Days.{first_found}
-use Rattle.ledger.proofs.Rules.{source_of, market_done}
-use Rattle.ledger.proofs.Tests.{names-true, names-yes, some-none}
+use Rattle.ledger.proofs.Rules.{market_done}
+use Rattle.ledger.proofs.Tests.{names-true, names-yes}
 use Rattle.ledger.proofs.Weights.{source_is, source-here}
 use Rattle.ledger.specs.History.{History, accepted, is_trade, is_close, day_after, trade_count, giver, mark_of, last_of, prices, lasts}
 use Rattle.ledger.specs.State.{Market, new_market, start_day}

@@ -1,10 +1,10 @@
 -- What every book keeps, call by call. Assumes nothing.
-use Rattle.std.proofs.Common.{◌≡◌, ℕ, ◌+◌, ◌*◌, ◌<◌, ◌≤◌, Bool, true, false, cond, not, ◌&&◌, eqb, ltb, ℤ, pos, ◌+ℤ◌, ◌*ℤ◌, neg_ℤ, nat_abs, is_some, Some, None, Option, sym, refl, ap, ◌∙◌, subst, ⊎_elim, arith}
+use Rattle.std.proofs.Common.{◌≡◌, ℕ, ◌+◌, ◌*◌, ◌≤◌, Bool, true, false, cond, not, ◌&&◌, eqb, ltb, ℤ, pos, ◌+ℤ◌, ◌*ℤ◌, neg_ℤ, nat_abs, is_some, Some, None, Option, sym, refl, ap, ◌∙◌, subst, ⊎_elim, arith}
 use Rattle.amounts.proofs.Ring.{product_le}
 use Rattle.amounts.specs.SumsOfWhole.{if_z}
 use Rattle.ledger.proofs.Classes.{tradable-known, successor-known}
 use Rattle.ledger.proofs.Rules.{class_on, newest, source_of, after_parts}
-use Rattle.ledger.proofs.Tests.{ask-none, given-some, not-given, some-none, put-here, put-there}
+use Rattle.ledger.proofs.Tests.{ask-none, given-some, some-none, put-here, put-there}
 use Rattle.ledger.proofs.Trading.{may-trade}
 use Rattle.ledger.proofs.Weights.{source_is}
 use Rattle.ledger.specs.Calls.{price_fits, refusal, done}
@@ -13,9 +13,9 @@ use Rattle.ledger.specs.State.{State, Made, new_state}
 use Rattle.ledger.specs.Words.{within, put, from, share}
 use Rattle.ledger.specs.declared.call.Call.{Call}
 use Rattle.ledger.specs.declared.call.Call.TheVariants.{Trade, Mark, Reprice, Settle, Close}
-use Rattle.std.proofs.lemmas.Bool.{cases_eq, and_parts, not_from_true, false≢true, cond-true, cond-false, ltb-true}
+use Rattle.std.proofs.lemmas.Bool.{cases_eq, and_parts, false≢true, cond-false}
 use Rattle.std.proofs.lemmas.Int.{ints}
-use Rattle.terms.specs.Day.{next_day, day_of}
+use Rattle.terms.specs.Day.{next_day}
 use Rattle.terms.specs.Laws.{Laws}
 use Rattle.terms.specs.Meaning.{Meaning, tradable, successor}
 

@@ -1,20 +1,20 @@
 -- The law of the ledger, at the start and after each call. Assumes nothing.
-use Rattle.std.proofs.Common.{◌≡◌, ℕ, ◌+◌, true, cond, ◌&&◌, eqb, leb, [], ◌∷◌, ℤ, pos, ◌+ℤ◌, ◌-ℤ◌, ◌*ℤ◌, Some, None, Option, sym, refl, ap, ◌∙◌, subst, arith}
+use Rattle.std.proofs.Common.{◌≡◌, ℕ, true, ◌&&◌, eqb, leb, [], ◌∷◌, ℤ, pos, ◌+ℤ◌, ◌-ℤ◌, ◌*ℤ◌, Some, None, Option, sym, refl, ap, ◌∙◌, subst, arith}
 use Rattle.amounts.specs.SumsOfWhole.{sum_z, if_z}
-use Rattle.ledger.proofs.Balance.{total, total-is, Balanced, new-balanced, done-balanced}
+use Rattle.ledger.proofs.Balance.{total-is, Balanced, new-balanced, done-balanced}
 use Rattle.ledger.proofs.Closing.{may-close, close-open, close-kept}
 use Rattle.ledger.proofs.Days.{start-answered}
 use Rattle.ledger.proofs.Figures.{Figures, figures_of, told, figures-accepted, figures-refused}
 use Rattle.ledger.proofs.Following.{Follows, new-follows, follows-accepted, follows-refused}
 use Rattle.ledger.proofs.Keeping.{keeps-new, keeps-done}
 use Rattle.ledger.proofs.Kept.{Open, Kept, worth, finals, kept-nil, past-empty}
-use Rattle.ledger.proofs.Rules.{class_on, quantity_on, held, market_done, row_done}
+use Rattle.ledger.proofs.Rules.{held, market_done, row_done}
 use Rattle.ledger.proofs.Settling.{settle-open, settle-kept}
 use Rattle.ledger.proofs.Tests.{ask-none, some-none}
 use Rattle.ledger.proofs.Trading.{may-trade, settle-priced, story_of, still, trade-kept}
 use Rattle.ledger.specs.Calls.{refusal, done, after}
-use Rattle.ledger.specs.History.{History, day_after, net, since, costs, booked, final, lasts}
-use Rattle.ledger.specs.Ledger.{held as held_by_law, at_last, at_final, Ledger, Agrees, Keeps, Stands, Reached, Always, Life, LivesOn, LedgerStands}
+use Rattle.ledger.specs.History.{History, net, since, costs, booked, final}
+use Rattle.ledger.specs.Ledger.{held as held_by_law, at_last, at_final, Keeps, Stands, Reached, Always, Life, LivesOn, LedgerStands}
 use Rattle.ledger.specs.Make.{make_refusal}
 use Rattle.ledger.specs.State.{Made, State, new_state, start_day}
 use Rattle.ledger.specs.Words.{or_zero, share, unless}

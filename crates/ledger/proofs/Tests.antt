@@ -1,8 +1,6 @@
 -- Tests over all numbers below a bound, answers that may be none, and the questions. Assumes nothing.
-use Rattle.std.proofs.Common.{◌≡◌, ℕ, zero, suc, ◌<◌, Bool, true, false, cond, not, ◌&&◌, eqb, is_some, Some, None, Option, sym, refl, ap, ◌∙◌, ⊎_elim, arith}
-use Rattle.std.proofs.Math.Bool.{and-false}
-use Rattle.std.proofs.lemmas.Bool.{cases_eq, eq-eqb, ne_eqb, eqb-true, and_parts, or_parts, or_cases, false≢true}
-use Rattle.terms.specs.Laws.{names}
+use Rattle.std.proofs.Common.{◌≡◌, ℕ, zero, suc, ◌<◌, Bool, true, false, cond, not, eqb, is_some, Some, None, Option, refl, ap, ⊎_elim, arith}
+use Rattle.std.proofs.lemmas.Bool.{eq-eqb, ne_eqb, or_cases, false≢true}
 use Rattle.terms.specs.Meaning.{any_below}
 use Rattle.ledger.specs.Words.{ask}
 pub use Rattle.terms.proofs.Ranges.{all-each, all-not, all_same, none_each}

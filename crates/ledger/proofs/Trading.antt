@@ -1,6 +1,6 @@
 -- An accepted trade keeps what every history keeps of a row: the row is as many times one lot more as the account has lots in
 -- the trade. Assumes nothing.
-use Rattle.std.proofs.Common.{◌≡◌, ℕ, ◌+◌, ◌<◌, Bool, true, false, not, ◌&&◌, eqb, leb, ltb, ℤ, pos, ◌+ℤ◌, ◌-ℤ◌, ◌*ℤ◌, is_some, Some, None, Option, sym, ap, ◌∙◌, subst, arith}
+use Rattle.std.proofs.Common.{◌≡◌, ℕ, ◌+◌, ◌<◌, Bool, true, false, not, ◌&&◌, eqb, leb, ltb, ℤ, pos, ◌+ℤ◌, ◌-ℤ◌, ◌*ℤ◌, is_some, None, Option, sym, ap, ◌∙◌, subst, arith}
 use lib.IntN.{*ℤ_comm, *ℤ-zero}
 use Rattle.amounts.proofs.Ring.{*ℤ-assoc}
 use Rattle.amounts.specs.SumsOfWhole.{if_z}
@@ -11,7 +11,7 @@ use Rattle.ledger.proofs.Tests.{ask-none, given-some}
 use Rattle.ledger.specs.Calls.{known, lots_fit, price_fits, row_traded, refusal}
 use Rattle.ledger.specs.State.{Market, Row, State}
 use Rattle.ledger.specs.Words.{within, share}
-use Rattle.ledger.specs.declared.call.Call.TheVariants.{Trade, Mark, Reprice, Settle}
+use Rattle.ledger.specs.declared.call.Call.TheVariants.{Trade, Settle}
 use Rattle.std.proofs.lemmas.Bool.{and_parts, ltb-true}
 use Rattle.std.proofs.lemmas.Int.{ints}
 use Rattle.terms.specs.Laws.{Laws}

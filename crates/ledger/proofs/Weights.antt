@@ -1,15 +1,15 @@
 -- What lots weigh, before and after they went to parts and to successors. Assumes nothing.
-use Rattle.std.proofs.Common.{◌≡◌, ℕ, zero, suc, ◌<◌, Bool, true, false, cond, eqb, ℤ, pos, ◌+ℤ◌, ◌-ℤ◌, ◌*ℤ◌, Some, None, Option, sym, refl, ap, ◌∙◌, subst, ⊎_elim, arith}
+use Rattle.std.proofs.Common.{◌≡◌, ℕ, zero, suc, ◌<◌, Bool, true, false, cond, eqb, ℤ, pos, ◌+ℤ◌, ◌-ℤ◌, ◌*ℤ◌, Some, None, Option, sym, refl, ap, ◌∙◌, ⊎_elim, arith}
 use lib.IntN.{zero-*ℤ}
 use Rattle.amounts.proofs.Ring.{*ℤ-right-distrib}
 use Rattle.amounts.proofs.Sums.{sum_same, sum-add, sum-sub, sum-nil, sum-swap, sum_one, if-zero, if-add, hit, miss}
 use Rattle.amounts.specs.SumsOfWhole.{sum_z, if_z}
 use Rattle.std.proofs.lemmas.Int.{ints}
-use Rattle.std.proofs.lemmas.Bool.{cases_eq, cases_Bool, false≢true, cond-true, cond-false}
+use Rattle.std.proofs.lemmas.Bool.{cases_Bool, cond-true, cond-false}
 use Rattle.terms.specs.Laws.{names}
 use Rattle.terms.specs.Day.{source_below}
 use Rattle.ledger.specs.Words.{from}
-use Rattle.ledger.proofs.Tests.{some-none, names-true, names-yes}
+use Rattle.ledger.proofs.Tests.{names-true, names-yes}
 pub use Rattle.terms.proofs.Sources.{source_is, source-here, source-none}
 
 -- a weight for each class, additive in the lots

@@ -1,6 +1,6 @@
 -- The calls: the questions in their order, and what an accepted call makes of the market and of an account's row.
 -- Assumes nothing.
-use Rattle.std.specs.Prelude.{ℕ, ◌+◌, Bool, true, false, cond, not, ◌&&◌, ℤ, pos, negsuc, ◌+ℤ◌, ◌-ℤ◌, ◌*ℤ◌, neg_ℤ, is_some, Some, None, Option, ◌==◌, nat_le, nat_lt}
+use Rattle.std.specs.Prelude.{ℕ, ◌+◌, Bool, true, false, cond, not, ◌&&◌, ℤ, pos, negsuc, ◌+ℤ◌, ◌-ℤ◌, ◌*ℤ◌, is_some, Some, None, Option, ◌==◌, nat_le, nat_lt}
 use Rattle.amounts.specs.Amounts.{variation, part_payment, final_payment}
 use Rattle.amounts.specs.SumsOfWhole.{sum_z, if_z}
 use Rattle.terms.specs.Day.{Day, day_of, next_day}

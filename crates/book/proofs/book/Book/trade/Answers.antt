@@ -1,9 +1,7 @@
-use Rattle.std.proofs.Common.{rules, ◌≡◌, ap, ◌∙◌, to_z, of_z, w32}
-use Rattle.std.proofs.lemmas.Int.{to_z-of_z}
+use Rattle.std.proofs.Common.{rules}
 use Rattle.book.proofs.Lives.{ready, lived-after}
 use Rattle.book.specs.Stores.{meaning_in, state_in}
 use Rattle.ledger.proofs.Standing.{lives-on}
-use Rattle.ledger.specs.Calls.{after}
 use Rattle.ledger.specs.declared.call.Call.TheVariants.{Trade}
 use Rattle.book.proofs.book.Book.trade.Goals as goal
 

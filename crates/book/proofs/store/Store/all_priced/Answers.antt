@@ -1,9 +1,8 @@
 use Rattle.std.proofs.Common.{◌≡◌, ℕ, Bool, true, false, cond, is_some, refl, ap, ◌∙◌, arith, rules}
-use Rattle.book.specs.Markets.{market_of}
 use Rattle.book.specs.Stores.{state_in}
 use Rattle.day_table.specs.Table.{day_in}
 use Rattle.ledger.specs.Words.{all_below}
-use Rattle.std.proofs.lemmas.Iterator.{cases_from_all, YieldsList-from_range, serves_from_Range}
+use Rattle.std.proofs.lemmas.Iterator.{cases_from_all, YieldsList-from_range}
 use Rattle.terms.proofs.Ranges.{all-is}
 use Rattle.terms.specs.Day.{Day}
 use Rattle.book.proofs.store.Store.all_priced.Goals as goal

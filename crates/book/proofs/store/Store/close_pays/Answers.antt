@@ -1,4 +1,4 @@
-use Rattle.std.proofs.Common.{◌≡◌, ℕ, ℤ, pos, ◌+ℤ◌, ◌<◌, length, sym, ap, ◌∙◌, arith}
+use Rattle.std.proofs.Common.{◌+ℤ◌, ◌<◌, length, ap, ◌∙◌, arith}
 use Rattle.amounts.specs.SumsOfWhole.{sum_z}
 use Rattle.book.proofs.Closes.{variations, parts, no-parts-pay, nothing-more}
 use Rattle.book.specs.Quotes.{quote_at, quote_pay}
@@ -7,7 +7,6 @@ use Rattle.book.specs.Stores.{state_in}
 use Rattle.day_table.specs.Table.{day_in}
 use Rattle.ledger.specs.Calls.{variation_pay, parts_pay, close_pay}
 use Rattle.ledger.specs.Words.{at}
-use Rattle.terms.specs.Day.{Day}
 use Rattle.book.proofs.store.Store.close_pays.Goals as goal
 
 pub returns-then-not-day : goal.returns-then-not-day

@@ -1,4 +1,4 @@
-use Rattle.std.proofs.Common.{◌≡◌, ◌≤◌, sym, ap, ◌∙◌, subst}
+use Rattle.std.proofs.Common.{◌≤◌, sym, ap, ◌∙◌, subst}
 use Rattle.book.proofs.Days.{tells, twelve, flagged, small}
 use Rattle.book.specs.Rows.{Flagged, SmallDay}
 use Rattle.day_table.specs.Table.{day_in}
@@ -24,3 +24,6 @@ pub returns-clause-small : goal.returns-clause-small
 returns-clause-small g c =
     let d = c.args.self.now.dated in
     subst SmallDay (sym c.table.ensures) (small (g.T.Terms.meaning d.terms) (g.met.T.Terms.lawful d.terms) d.table d.read)
+
+pub returns-clause-read : goal.returns-clause-read
+returns-clause-read g c = c.table.ensures ∙ c.args.self.now.dated.read

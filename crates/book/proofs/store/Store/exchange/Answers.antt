@@ -1,4 +1,4 @@
-use Rattle.std.proofs.Common.{◌≡◌, ℤ, ℕ, length, ◌+◌, List, sym, ap, ◌∙◌, subst, to_z, of_z, w32, neg_ℤ}
+use Rattle.std.proofs.Common.{ℤ, length, ◌+◌, List, sym, ap, ◌∙◌, subst, to_z, of_z, w32, neg_ℤ}
 use Rattle.std.proofs.lemmas.Int.{to_z-of_z}
 use Rattle.book.proofs.Trades.{refilled, buyer-room, seller-room}
 use Rattle.book.specs.Rows.{rows_of, Room}

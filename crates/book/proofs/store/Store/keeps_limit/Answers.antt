@@ -1,4 +1,4 @@
-use Rattle.std.proofs.Common.{◌≡◌, ℕ, Bool, true, List, length, sym, ap, ◌∙◌}
+use Rattle.std.proofs.Common.{Bool, List, length, sym, ap, ◌∙◌}
 use Rattle.book.proofs.Closes.{all-keep}
 use Rattle.book.specs.Rows.{rows_of}
 use Rattle.book.specs.declared.account.Account.{Account}

@@ -1,6 +1,6 @@
-use Rattle.std.proofs.Common.{◌≡◌, ℕ, ℤ, ◌≤◌, ◌+ℤ◌, List, length, ap, ◌∙◌, subst, sym, arith}
+use Rattle.std.proofs.Common.{◌+ℤ◌, List, length, ap, ◌∙◌, sym}
 use Rattle.book.proofs.Settles.{cash-same, cash-small}
-use Rattle.book.specs.Rows.{rows_of, CashFits}
+use Rattle.book.specs.Rows.{rows_of}
 use Rattle.book.specs.Stores.{state_in}
 use Rattle.book.specs.declared.account.Account.{Account}
 use Rattle.ledger.specs.Calls.{cash_fits}

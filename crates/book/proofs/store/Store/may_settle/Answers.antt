@@ -1,11 +1,9 @@
-use Rattle.std.proofs.Common.{◌≡◌, ℕ, ℤ, ◌<◌, ◌≤◌, true, false, leb, is_some, Option, Some, sym, ap, ◌∙◌, subst, arith, to_z, of_z, w32, rules}
+use Rattle.std.proofs.Common.{◌≡◌, ℤ, true, false, leb, is_some, Option, sym, ap, ◌∙◌, arith, to_z, of_z, w32}
 use Rattle.std.proofs.lemmas.Bool.{le-leb}
 use Rattle.std.proofs.lemmas.Int.{to_z-of_z}
 use Rattle.book.proofs.Afters.{settle-asked}
 use Rattle.book.specs.Stores.{meaning_in, state_in}
 use Rattle.ledger.specs.Calls.{today, settle_pay, price_fits}
-use Rattle.ledger.specs.State.{Row}
-use Rattle.ledger.specs.Words.{at}
 use Rattle.book.proofs.store.Store.may_settle.Goals as goal
 
 pub returns-then-not-may_pay-clause-answer : goal.returns-then-not-may_pay-clause-answer

@@ -1,4 +1,4 @@
-use Rattle.std.proofs.Common.{◌≡◌, ℕ, ◌<◌, List, None, length, sym, ap, ◌∙◌, subst, arith}
+use Rattle.std.proofs.Common.{◌≡◌, ℕ, ◌<◌, List, None, length, ap, ◌∙◌, arith}
 use Rattle.book.proofs.Settles.{settled-rows}
 use Rattle.book.proofs.Trades.{refilled}
 use Rattle.book.specs.Rows.{rows_of, row_paid}

@@ -1,4 +1,4 @@
-use Rattle.std.proofs.Common.{◌≡◌, ℤ, true, Some, sym, ap, ◌∙◌, to_z, of_z, w32}
+use Rattle.std.proofs.Common.{◌≡◌, ℤ, true, Some, sym, ap, ◌∙◌, w32}
 use Rattle.std.proofs.lemmas.Int.{to_z-of_z}
 use Rattle.book.proofs.Afters.{accepted, reprice-accepted}
 use Rattle.book.specs.Stores.{meaning_in, state_in}

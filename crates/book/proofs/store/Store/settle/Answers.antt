@@ -1,4 +1,4 @@
-use Rattle.std.proofs.Common.{◌≡◌, ℕ, ℤ, None, Option, sym, ap, ◌∙◌, length, to_z, of_z, w32}
+use Rattle.std.proofs.Common.{Option, sym, ap, ◌∙◌, length, w32}
 use Rattle.std.proofs.lemmas.Int.{to_z-of_z}
 use Rattle.book.proofs.Afters.{accepted}
 use Rattle.book.proofs.Settles.{written_same}

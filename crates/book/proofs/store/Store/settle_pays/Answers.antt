@@ -1,4 +1,4 @@
-use Rattle.std.proofs.Common.{◌≡◌, ℕ, ◌<◌, length, ap, ◌∙◌, arith, w32}
+use Rattle.std.proofs.Common.{◌<◌, length, ap, ◌∙◌, arith, w32}
 use Rattle.std.proofs.lemmas.Int.{to_z-of_z}
 use Rattle.amounts.specs.Amounts.{final_payment}
 use Rattle.book.proofs.Settles.{pays-settled}
