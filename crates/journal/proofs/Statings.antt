@@ -7,7 +7,7 @@ use Rattle.history.specs.Told.{Told}
 use Rattle.history.specs.declared.reading.Reading.{Reading}
 use Rattle.journal.specs.Figures.{held_in, last_in, final_in}
 use Rattle.ledger.proofs.Standing.{stands-now}
-use Rattle.ledger.specs.History.{History, day_after, lasts}
+use Rattle.ledger.specs.History.{History, day_after}
 use Rattle.ledger.specs.Ledger.{Life, Stands, held, at_last, at_final}
 use Rattle.ledger.specs.State.{State}
 use Rattle.ledger.specs.Words.{reply, or_zero}

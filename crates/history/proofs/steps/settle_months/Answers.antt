@@ -1,4 +1,4 @@
-use Rattle.std.proofs.Common.{◌≡◌, cond, Some, None, refl, ◌∙◌, arith, w32, to_z, of_z}
+use Rattle.std.proofs.Common.{cond, Some, None, refl, ◌∙◌, arith, w32, to_z, of_z}
 use Rattle.history.proofs.Runs.{run_more}
 use Rattle.ledger.specs.History.{first_of}
 use Rattle.std.proofs.lemmas.List.{length-set}
