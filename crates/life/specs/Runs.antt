@@ -5,7 +5,6 @@ use Rattle.ledger.specs.State.{State}
 use Rattle.ledger.specs.declared.call.Call.{Call}
 use Rattle.ledger.specs.declared.call.Call.TheVariants.{Trade, Mark, Reprice, Settle, Close}
 use Rattle.ledger.specs.declared.entry.Entry.{Entry}
-use Rattle.ledger.specs.declared.payment.Payment.{Payment}
 use Rattle.life.specs.DayCalls.{day_calls}
 use Rattle.life.specs.Paths.{followed_text}
 use Rattle.life.specs.Told.{reply_told, refusal_told}
@@ -18,7 +17,6 @@ use Rattle.rows.specs.declared.request.Request.{Request}
 use Rattle.rows.specs.declared.request.Request.TheVariants.{Book, Margins}
 use Rattle.sheet.specs.Replies.{reply, left, noted}
 use Rattle.sheet.specs.Sheets.{headed}
-use Rattle.sheet.specs.declared.cause.Cause.{Cause}
 use Rattle.sheet.specs.declared.cause.LineFault.{LineFault}
 use Rattle.terms.specs.Meaning.{Meaning}
 use Rattle.text.specs.Lines.{lines}
