@@ -20,6 +20,11 @@ use Rattle.terms.specs.declared.terms.Terms.{Ghosts}
 abbrev pub refused_make : Meaning → ℕ → ℕ → List ClassLine → Option Fault
 refused_make w month accounts lines = make_refusal w (made_of month accounts lines)
 
+-- why nothing was made, where nothing was
+abbrev pub unmade : {A T : Type 0} → Result A (NotMade T) → Option Fault
+unmade (Ok x) = None
+unmade (Err e) = Some e.fault
+
 module _ {T : Type 0} {g : Ghosts T} where
   -- the terms that a book was made over, and what they mean
   abbrev pub terms_of : Book T g → T
@@ -35,11 +40,6 @@ module _ {T : Type 0} {g : Ghosts T} where
   -- no lots, cash and prices yet, on the first open day of its month
   abbrev pub IsNew : Book T g → ℕ → ℕ → List ClassLine → Type 0
   IsNew b month accounts lines = book_of b ≡ new_state (meaning_of b) (made_of month accounts lines)
-
-  -- why no book was made, where none was
-  abbrev pub unmade : Result (Book T g) (NotMade T) → Option Fault
-  unmade (Ok b) = None
-  unmade (Err e) = Some e.fault
 
   -- the question of a call that is answered no, if one is; the answer; what the book holds afterwards; a payment list afterwards
   abbrev pub refused : Book T g → Call → Option Fault

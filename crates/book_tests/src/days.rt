@@ -8,7 +8,7 @@ use terms::Terms;
 use wheat::Wheat;
 
 // A line of a payment list as a caller may have left it.
-const OLD: Payment = Payment {
+pub(crate) const OLD: Payment = Payment {
     account: 9,
     cents: 5,
 };
@@ -29,7 +29,7 @@ fn mark_each<T: Terms>(book: &mut Book<T>, price: i32) -> Result<(), Fault> {
     Ok(())
 }
 
-fn end_day<T: Terms>(book: &mut Book<T>, price: i32) -> Result<(), Fault> {
+pub(crate) fn end_day<T: Terms>(book: &mut Book<T>, price: i32) -> Result<(), Fault> {
     mark_each(book, price)?;
     book.close(&mut [OLD; 2])
 }
@@ -45,7 +45,7 @@ fn pass_days<T: Terms>(book: &mut Book<T>, days: u32, price: i32) -> Result<(), 
     Ok(())
 }
 
-fn payment(account: u32, cents: i128) -> Payment {
+pub(crate) fn payment(account: u32, cents: i128) -> Payment {
     Payment { account, cents }
 }
 

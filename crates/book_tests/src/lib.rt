@@ -3,4 +3,6 @@
 #[cfg(test)]
 mod days;
 #[cfg(test)]
+mod own_terms;
+#[cfg(test)]
 mod tests;

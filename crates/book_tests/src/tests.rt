@@ -9,7 +9,7 @@ use std::test::Fail;
 
 pub(crate) type PowerBook = Book<Power<Weekdays, Baseload>>;
 
-fn line(class: u32) -> ClassLine {
+pub(crate) fn line(class: u32) -> ClassLine {
     ClassLine {
         class,
         interval: 1000,

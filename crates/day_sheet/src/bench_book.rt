@@ -1,6 +1,7 @@
 // The bench's book.
 ghost use Rattle.std.specs.Prelude.{◌≡◌, [], IfOk};
-ghost use Rattle.day_sheet.specs.DaySheet.{bench_tables, bench_lines, bench_line};
+ghost use Rattle.day_sheet.specs.DaySheet.{bench_state, bench_lines, bench_line};
+ghost use Rattle.journal.specs.Journals.{state_of, entries_of};
 
 use calendars::Weekdays;
 use coded::ClassLine;
@@ -28,8 +29,8 @@ fn lines() -> [ClassLine; 11]
 
 // The bench's book, with no call yet.
 pub(crate) fn open(heap: Global) -> Result<Journal<Power<Weekdays, Baseload>>, AllocError>
-    ensures book { IfOk result (λ j. j.book.tables ≡ bench_tables) }
-    ensures history { IfOk result (λ j. (j.month ≡ 98) × (j.entries.items ≡ [])) }
+    ensures state { IfOk result (λ j. state_of j ≡ bench_state) }
+    ensures entries { IfOk result (λ j. entries_of j ≡ []) }
 {
     let terms = Power {
         calendar: Weekdays,

@@ -1,7 +1,6 @@
 -- What a journal keeps: a book over terms, and all its calls with their answers. Assumes nothing.
-use Rattle.std.specs.Prelude.{◌≡◌, ℕ, min, List, [], ◌∷◌, ◌++◌, reverse, ℤ, ⊤, Some, None, Option, Ok, Err, Result, vec_capacity}
+use Rattle.std.specs.Prelude.{◌≡◌, ℕ, min, List, [], ◌∷◌, ◌++◌, reverse, ℤ, ⊤, Option, Result, vec_capacity}
 use Rattle.book.specs.Books.{terms_of as terms_of_book, book_of}
-use Rattle.book.specs.declared.make.NotMade.{NotMade}
 use Rattle.coded.specs.declared.class_line.ClassLine.{ClassLine}
 use Rattle.journal.specs.Statements.{States}
 use Rattle.journal.specs.declared.journal.Journal.{Journal}
@@ -52,11 +51,6 @@ module _ {T : Type 0} {g : Ghosts T} where
   -- no lots, cash and prices yet, on the first open day of its month
   abbrev pub IsNew : Journal T g → ℕ → ℕ → List ClassLine → Type 0
   IsNew j month accounts lines = state_of j ≡ new_state (meaning_of j) (made_of month accounts lines)
-
-  -- why no journal was opened, where none was
-  abbrev pub unopened : Result (Journal T g) (NotMade T) → Option Fault
-  unopened (Ok j) = None
-  unopened (Err e) = Some e.fault
 
   -- ---- a call
 

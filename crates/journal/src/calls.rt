@@ -1,7 +1,7 @@
 // A journal's make, its reads and its calls.
 ghost use Rattle.std.specs.Prelude.{◌≡◌, ◌≤◌, [], length, reverse, IfOk, IfErr, MatchResult};
-ghost use Rattle.book.specs.Books.{book_of, terms_of as terms_of_book, refused_make};
-ghost use Rattle.journal.specs.Journals.{terms_of, meaning_of, state_of, entries_of, room_of, IsNew, unopened, answer, left, listed, noted};
+ghost use Rattle.book.specs.Books.{book_of, terms_of as terms_of_book, refused_make, unmade};
+ghost use Rattle.journal.specs.Journals.{terms_of, meaning_of, state_of, entries_of, room_of, IsNew, answer, left, listed, noted};
 ghost use Rattle.ledger.specs.Ledger.{Life};
 ghost use Rattle.std.specs.Result.{result_err};
 
@@ -35,7 +35,7 @@ impl<T: Terms> Journal<T> {
         ensures state { IfOk result (λ j. IsNew j month accounts lines.now) }
         ensures entries { IfOk result (λ j. entries_of j ≡ []) }
         ensures terms { MatchResult result (λ j. terms_of j ≡ terms) (λ e. e.terms ≡ terms) }
-        ensures refused { refused_make (T.meaning terms) month accounts lines.now ≡ unopened result }
+        ensures refused { refused_make (T.meaning terms) month accounts lines.now ≡ unmade result }
     {
         let book = Book::make(terms, month, accounts, lines)?;
         Ok(Journal {

@@ -1,5 +1,5 @@
 -- Calls, one after the other, and days of them. Assumes nothing.
-use Rattle.std.proofs.Common.{◌≡◌, ℕ, suc, ◌+◌, ◌-◌, ◌<◌, ◌≤◌, Bool, true, false, cond, List, [], ◌∷◌, ℤ, Option, sym, refl, ap, ◌∙◌, arith}
+use Rattle.std.proofs.Common.{◌≡◌, ℕ, suc, ◌+◌, ◌-◌, ◌<◌, ◌≤◌, true, false, cond, List, [], ◌∷◌, ℤ, Option, sym, ap, ◌∙◌, arith}
 use Rattle.ledger.specs.declared.call.Call.{Call}
 use Rattle.life.specs.Runs.{Run, call_run, accepts, calls_run, all_pass, day_run, day_passes, days_run}
 use Rattle.products.specs.declared.product.Product.{Product}

@@ -1,5 +1,5 @@
 -- The lines of values, one after the other. Assumes nothing.
-use Rattle.std.proofs.Common.{◌≡◌, ℕ, ◌+◌, List, [], ◌∷◌, Option, sym, refl, ap, ◌∙◌}
+use Rattle.std.proofs.Common.{◌≡◌, ℕ, ◌+◌, List, [], ◌∷◌, Option, sym, ap, ◌∙◌}
 use Rattle.life.specs.Runs.{Run, line_run, rows_run}
 use Rattle.products.specs.declared.product.Product.{Product}
 use Rattle.terms.specs.Meaning.{Meaning}

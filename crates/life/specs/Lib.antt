@@ -1,4 +1,5 @@
 pub mod DayCalls
+pub mod Lives
 pub mod Paths
 pub mod Reckoned
 pub mod Runs

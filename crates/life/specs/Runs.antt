@@ -1,12 +1,10 @@
 -- A life: the lines of a sheet, one after the other on the same book, and what is told of them. Assumes nothing.
 use Rattle.std.specs.Prelude.{ℕ, zero, suc, ◌+◌, Bool, true, false, List, [], ◌∷◌, ◌++◌, ℤ, Option, Some, None, Ok, Err, Result, cond, ◌&&◌, is_none, is_ok}
-use Rattle.book.specs.Tables.{view}
-use Rattle.book.specs.declared.tables.Tables.{Tables}
 use Rattle.ledger.specs.Calls.{refusal}
+use Rattle.ledger.specs.State.{State}
 use Rattle.ledger.specs.declared.call.Call.{Call}
 use Rattle.ledger.specs.declared.call.Call.TheVariants.{Trade, Mark, Reprice, Settle, Close}
 use Rattle.ledger.specs.declared.entry.Entry.{Entry}
-use Rattle.ledger.specs.declared.payment.Payment.{Payment}
 use Rattle.life.specs.DayCalls.{day_calls}
 use Rattle.life.specs.Paths.{followed_text}
 use Rattle.life.specs.Told.{reply_told, refusal_told}
@@ -19,20 +17,19 @@ use Rattle.rows.specs.declared.request.Request.{Request}
 use Rattle.rows.specs.declared.request.Request.TheVariants.{Book, Margins}
 use Rattle.sheet.specs.Replies.{reply, left, noted}
 use Rattle.sheet.specs.Sheets.{headed}
-use Rattle.sheet.specs.declared.cause.Cause.{Cause}
 use Rattle.sheet.specs.declared.cause.LineFault.{LineFault}
 use Rattle.terms.specs.Meaning.{Meaning}
 use Rattle.text.specs.Lines.{lines}
 
--- how far a life has come: what has been told, the book's tables, and its calls with their answers
+-- how far a life has come: what has been told, what the book holds, and its calls with their answers
 pub record Run : Type 0 where
   pub text : List ℕ
-  pub tables : Tables
+  pub state : State
   pub entries : List Entry
 
--- the run of a text, tables and entries
-abbrev pub run_at : List ℕ → Tables → List Entry → Run
-run_at text tables entries = record { text = text; tables = tables; entries = entries }
+-- the run of a text, a state and entries
+abbrev pub run_at : List ℕ → State → List Entry → Run
+run_at text state entries = record { text = text; state = state; entries = entries }
 
 -- after an accepted settle or close an account's path goes on
 abbrev pub call_moves : Call → Bool
@@ -52,16 +49,16 @@ module _ (w : Meaning) (product : Product) (followed : Option ℕ) where
   unfoldable pub asked_run : ℕ → Result Request SheetFault → Run → Run
   asked_run n asked r = record {
     text =
-        r.text ++ (reply_told n r.tables.day asked (reply w r.tables asked) ++ cond (moves asked && is_ok (reply w r.tables asked)) (followed_text w product (left w r.tables asked) followed) []);
-    tables = left w r.tables asked;
-    entries = r.entries ++ noted w r.tables asked;
+        r.text ++ (reply_told n r.state.market.day asked (reply w r.state asked) ++ cond (moves asked && is_ok (reply w r.state asked)) (followed_text w product (left w r.state asked) followed) []);
+    state = left w r.state asked;
+    entries = r.entries ++ noted w r.state asked;
   }
 
   abbrev pub call_run : ℕ → Call → Run → Run
   call_run n call r = asked_run n (Ok (Book call)) r
 
   abbrev pub accepts : Call → Run → Bool
-  accepts call r = is_none (refusal w (view r.tables) call)
+  accepts call r = is_none (refusal w r.state call)
 
   -- calls, up to the first that is refused
   unfoldable pub calls_run : ℕ → List Call → Run → Run
@@ -75,7 +72,7 @@ module _ (w : Meaning) (product : Product) (followed : Option ℕ) where
 
   -- the calls of a day that is advanced over
   abbrev pub calls_of : ℤ → Run → List Call
-  calls_of price r = day_calls w (view r.tables) price
+  calls_of price r = day_calls w r.state price
 
   abbrev pub day_run : ℕ → ℤ → Run → Run
   day_run n price r = calls_run n (calls_of price r) r
@@ -105,8 +102,8 @@ module _ (w : Meaning) (product : Product) (followed : Option ℕ) where
   -- a sheet without a names line is refused
   abbrev pub body_run : Result (List ℕ × List (List ℕ)) LineFault → Run → Run
   body_run (Err fault) r = record {
-    text = r.text ++ refusal_told fault.line r.tables.day fault.cause;
-    tables = r.tables;
+    text = r.text ++ refusal_told fault.line r.state.market.day fault.cause;
+    state = r.state;
     entries = r.entries;
   }
   body_run (Ok s) r = rows_run s.0 2 s.1 r

@@ -1,5 +1,5 @@
 -- What is told of one call, in sentences. Assumes nothing.
-use Rattle.std.specs.Prelude.{ℕ, List, [], ◌++◌, ℤ, ◌==◌, Ok, Err, Result, cond, codes, decimal, unsigned_abs}
+use Rattle.std.specs.Prelude.{ℕ, List, [], ◌++◌, ◌==◌, Ok, Err, Result, cond, codes, decimal, unsigned_abs}
 use Rattle.std.specs.Fmt.{signed_decimal}
 use Rattle.std.specs.List.{flat_map}
 use Rattle.ledger.specs.declared.call.Call.{Call}

@@ -1,11 +1,13 @@
 // The calls of a day that is advanced over.
 ghost use Rattle.std.specs.Prelude.{◌≡◌, ◌++◌, IfOk};
 ghost use Rattle.std.specs.List.{flat_map, range_with_len};
-ghost use Rattle.book.specs.Tables.{view};
+ghost use Rattle.book.specs.Books.{book_of, meaning_of};
 ghost use Rattle.life.specs.DayCalls.{unmarked, settle_calls, mark_calls, day_calls};
+ghost use Rattle.sheet.specs.Desks.{meaning_at, state_at};
 
 use book::Book;
 use ledger::Call;
+use sheet::Desk;
 use std::alloc::{AllocError, Global};
 use terms::Terms;
 
@@ -14,7 +16,7 @@ const ROOM: usize = 32;
 
 // Whether a class is tradable and has no price of the day.
 fn unmarked<T: Terms>(book: &Book<T>, class: u32) -> bool
-    ensures { result ≡ unmarked (T.meaning book.now.terms) (view book.now.tables) class }
+    ensures { result ≡ unmarked (meaning_of book.now) (book_of book.now) class }
 {
     let tradable = book
         .terms()
@@ -30,7 +32,7 @@ fn push_mark<T: Terms>(
     class: u32,
     price: i32,
 ) -> Result<(), AllocError>
-    ensures { IfOk result (λ u. calls.new.items ≡ calls.old.items ++ mark_calls (T.meaning book.now.terms) (view book.now.tables) price class) }
+    ensures { IfOk result (λ u. calls.new.items ≡ calls.old.items ++ mark_calls (meaning_of book.now) (book_of book.now) price class) }
 {
     if unmarked(book, class) {
         let price = book.last_price(class).unwrap_or(price);
@@ -45,7 +47,7 @@ fn push_settle<T: Terms>(
     book: &Book<T>,
     price: i32,
 ) -> Result<(), AllocError>
-    ensures { IfOk result (λ u. calls.new.items ≡ calls.old.items ++ settle_calls (T.meaning book.now.terms) (view book.now.tables) price) }
+    ensures { IfOk result (λ u. calls.new.items ≡ calls.old.items ++ settle_calls (meaning_of book.now) (book_of book.now) price) }
 {
     if book.last_price(book.terms().settling()).is_some() {
         calls.push(Call::Settle { price, room: ROOM })?;
@@ -55,7 +57,7 @@ fn push_settle<T: Terms>(
 
 // The marks that are due.
 fn push_marks<T: Terms>(calls: &mut Vec<Call>, book: &Book<T>, price: i32) -> Result<(), AllocError>
-    ensures { IfOk result (λ u. calls.new.items ≡ calls.old.items ++ flat_map (mark_calls (T.meaning book.now.terms) (view book.now.tables) price) (range_with_len 0 (T.meaning book.now.terms).classes)) }
+    ensures { IfOk result (λ u. calls.new.items ≡ calls.old.items ++ flat_map (mark_calls (meaning_of book.now) (book_of book.now) price) (range_with_len 0 (meaning_of book.now).classes)) }
 {
     for class in 0..book.terms().classes() {
         push_mark(calls, book, class, price)?;
@@ -63,17 +65,24 @@ fn push_marks<T: Terms>(calls: &mut Vec<Call>, book: &Book<T>, price: i32) -> Re
     Ok(())
 }
 
-// The calls of a day: the settle, the marks, the close.
-pub(crate) fn day_calls<T: Terms>(
-    heap: Global,
-    book: &Book<T>,
-    price: i32,
-) -> Result<Vec<Call>, AllocError>
-    ensures { IfOk result (λ calls. calls.items ≡ day_calls (T.meaning book.now.terms) (view book.now.tables) price) }
+// The calls of a day on a book: the settle, the marks, the close.
+fn calls_on<T: Terms>(heap: Global, book: &Book<T>, price: i32) -> Result<Vec<Call>, AllocError>
+    ensures { IfOk result (λ calls. calls.items ≡ day_calls (meaning_of book.now) (book_of book.now) price) }
 {
     let mut calls = Vec::new(heap);
     push_settle(&mut calls, book, price)?;
     push_marks(&mut calls, book, price)?;
     calls.push(Call::Close { room: ROOM })?;
     Ok(calls)
+}
+
+// The same on the book of a desk.
+pub(crate) fn day_calls<T: Terms>(
+    heap: Global,
+    desk: &Desk<T>,
+    price: i32,
+) -> Result<Vec<Call>, AllocError>
+    ensures { IfOk result (λ calls. calls.items ≡ day_calls (meaning_at desk.now) (state_at desk.now) price) }
+{
+    calls_on(heap, desk.journal.book(), price)
 }

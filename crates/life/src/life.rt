@@ -1,12 +1,14 @@
 // A book's life, and who tells it.
 ghost use Rattle.std.specs.Prelude.{◌≡◌, ◌+◌, ◌++◌, Ok, IfOk, string_bytes};
-ghost use Rattle.journal.specs.Lived.{Lived};
+ghost use Rattle.journal.specs.Journals.{Lives};
 ghost use Rattle.ledger.specs.declared.call.Call.{Call as Called};
+ghost use Rattle.life.specs.Lives.{terms_in, meaning_in, run_of, run_told, text_reckoned};
 ghost use Rattle.life.specs.Paths.{followed_text};
-ghost use Rattle.life.specs.Reckoned.{reckoned_text};
-ghost use Rattle.life.specs.Runs.{run_at, moves, asked_run, accepts, calls_run, all_pass, day_run, day_passes, days_run, line_run, rows_run, sheet_run};
+ghost use Rattle.life.specs.Runs.{moves, asked_run, accepts, calls_run, all_pass, day_run, day_passes, days_run, line_run, rows_run};
+ghost use Rattle.rows.specs.Headings.{places_in};
 ghost use Rattle.rows.specs.declared.request.Request.TheVariants.{Book as OfBook};
-ghost use Rattle.text.specs.Lines.{lines_from};
+ghost use Rattle.sheet.specs.Desks.{state_at};
+ghost use Rattle.text.specs.Readers.{lines_left, lines_read};
 
 use crate::day_calls::day_calls;
 use crate::path::Path;
@@ -18,14 +20,14 @@ use sheet::{Desk, Head, headed};
 use std::alloc::{AllocError, Global};
 use terms::Terms;
 
-// A desk at which calls are made, and what has been told of them.
+/// A desk at which calls are made, and what has been told of them.
 #[derive(Drop)]
 pub struct Life<T: Terms> {
     pub desk: Desk<T>,
     pub text: String,
 }
 
-// Tells the life of a product's book, and the path of an account, if one is followed.
+/// Tells the life of a product's book, and the path of an account, if one is followed.
 #[derive(Clone, Copy)]
 pub struct Teller {
     pub product: Product,
@@ -45,7 +47,7 @@ fn moves(asked: Result<Request, SheetFault>) -> bool
 impl Teller {
     // The path of the account that is followed.
     fn tell_path<T: Terms>(self, life: &mut Life<T>) -> Result<(), AllocError>
-        ensures text { IfOk result (λ u. string_bytes life.new.text ≡ string_bytes life.old.text ++ followed_text (T.meaning life.old.desk.journal.book.terms) self.product life.old.desk.journal.book.tables self.followed) }
+        ensures text { IfOk result (λ u. string_bytes life.new.text ≡ string_bytes life.old.text ++ followed_text (meaning_in life.old) self.product (state_at life.old.desk) self.followed) }
         ensures same { life.new.desk ≡ life.old.desk }
     {
         let Some(account) = self.followed else {
@@ -67,9 +69,9 @@ impl Teller {
         line: usize,
         asked: Result<Request, SheetFault>,
     ) -> Result<bool, AllocError>
-        ensures run { IfOk result (λ u. run_at (string_bytes life.new.text) life.new.desk.journal.book.tables life.new.desk.journal.entries.items ≡ asked_run (T.meaning life.old.desk.journal.book.terms) self.product self.followed line asked (run_at (string_bytes life.old.text) life.old.desk.journal.book.tables life.old.desk.journal.entries.items)) }
-        ensures accepted { (call : Called) → asked ≡ Ok (OfBook call) → IfOk result (λ a. a ≡ accepts (T.meaning life.old.desk.journal.book.terms) self.product self.followed call (run_at (string_bytes life.old.text) life.old.desk.journal.book.tables life.old.desk.journal.entries.items)) }
-        ensures same { IfOk result (λ u. (life.new.desk.journal.book.terms ≡ life.old.desk.journal.book.terms) × (life.new.desk.journal.month ≡ life.old.desk.journal.month)) }
+        ensures run { IfOk result (λ u. run_of life.new ≡ asked_run (meaning_in life.old) self.product self.followed line asked (run_of life.old)) }
+        ensures accepted { (call : Called) → asked ≡ Ok (OfBook call) → IfOk result (λ a. a ≡ accepts (meaning_in life.old) self.product self.followed call (run_of life.old)) }
+        ensures terms { terms_in life.new ≡ terms_in life.old }
     {
         let day = life.desk.journal.book().day();
         let reply = life.desk.reply(asked)?;
@@ -88,9 +90,9 @@ impl Teller {
         line: usize,
         calls: &[Call],
     ) -> Result<bool, AllocError>
-        ensures run { IfOk result (λ u. run_at (string_bytes life.new.text) life.new.desk.journal.book.tables life.new.desk.journal.entries.items ≡ calls_run (T.meaning life.old.desk.journal.book.terms) self.product self.followed line calls.now (run_at (string_bytes life.old.text) life.old.desk.journal.book.tables life.old.desk.journal.entries.items)) }
-        ensures all { IfOk result (λ a. a ≡ all_pass (T.meaning life.old.desk.journal.book.terms) self.product self.followed line calls.now (run_at (string_bytes life.old.text) life.old.desk.journal.book.tables life.old.desk.journal.entries.items)) }
-        ensures same { IfOk result (λ u. (life.new.desk.journal.book.terms ≡ life.old.desk.journal.book.terms) × (life.new.desk.journal.month ≡ life.old.desk.journal.month)) }
+        ensures run { IfOk result (λ u. run_of life.new ≡ calls_run (meaning_in life.old) self.product self.followed line calls.now (run_of life.old)) }
+        ensures all { IfOk result (λ a. a ≡ all_pass (meaning_in life.old) self.product self.followed line calls.now (run_of life.old)) }
+        ensures terms { terms_in life.new ≡ terms_in life.old }
     {
         for call in calls {
             if !self.ask(life, line, Ok(Request::Book(*call)))? {
@@ -108,11 +110,11 @@ impl Teller {
         line: usize,
         advance: Advance,
     ) -> Result<bool, AllocError>
-        ensures run { IfOk result (λ u. run_at (string_bytes life.new.text) life.new.desk.journal.book.tables life.new.desk.journal.entries.items ≡ day_run (T.meaning life.old.desk.journal.book.terms) self.product self.followed line advance.price (run_at (string_bytes life.old.text) life.old.desk.journal.book.tables life.old.desk.journal.entries.items)) }
-        ensures all { IfOk result (λ a. a ≡ day_passes (T.meaning life.old.desk.journal.book.terms) self.product self.followed line advance.price (run_at (string_bytes life.old.text) life.old.desk.journal.book.tables life.old.desk.journal.entries.items)) }
-        ensures same { IfOk result (λ u. (life.new.desk.journal.book.terms ≡ life.old.desk.journal.book.terms) × (life.new.desk.journal.month ≡ life.old.desk.journal.month)) }
+        ensures run { IfOk result (λ u. run_of life.new ≡ day_run (meaning_in life.old) self.product self.followed line advance.price (run_of life.old)) }
+        ensures all { IfOk result (λ a. a ≡ day_passes (meaning_in life.old) self.product self.followed line advance.price (run_of life.old)) }
+        ensures terms { terms_in life.new ≡ terms_in life.old }
     {
-        let calls = day_calls(heap, life.desk.journal.book(), advance.price)?;
+        let calls = day_calls(heap, &life.desk, advance.price)?;
         self.call_all(life, line, calls.as_slice())
     }
 
@@ -124,8 +126,8 @@ impl Teller {
         line: usize,
         advance: Advance,
     ) -> Result<(), AllocError>
-        ensures run { IfOk result (λ u. run_at (string_bytes life.new.text) life.new.desk.journal.book.tables life.new.desk.journal.entries.items ≡ days_run (T.meaning life.old.desk.journal.book.terms) self.product self.followed line advance.price advance.days (run_at (string_bytes life.old.text) life.old.desk.journal.book.tables life.old.desk.journal.entries.items)) }
-        ensures same { IfOk result (λ u. (life.new.desk.journal.book.terms ≡ life.old.desk.journal.book.terms) × (life.new.desk.journal.month ≡ life.old.desk.journal.month)) }
+        ensures run { IfOk result (λ u. run_of life.new ≡ days_run (meaning_in life.old) self.product self.followed line advance.price advance.days (run_of life.old)) }
+        ensures terms { terms_in life.new ≡ terms_in life.old }
     {
         for _ in 0..advance.days {
             if !self.advance_day(heap, life, line, advance)? {
@@ -144,8 +146,8 @@ impl Teller {
         number: usize,
         line: &[u8],
     ) -> Result<(), AllocError>
-        ensures run { IfOk result (λ u. run_at (string_bytes life.new.text) life.new.desk.journal.book.tables life.new.desk.journal.entries.items ≡ line_run (T.meaning life.old.desk.journal.book.terms) self.product self.followed names.now.places number line.now (run_at (string_bytes life.old.text) life.old.desk.journal.book.tables life.old.desk.journal.entries.items)) }
-        ensures same { IfOk result (λ u. (life.new.desk.journal.book.terms ≡ life.old.desk.journal.book.terms) × (life.new.desk.journal.month ≡ life.old.desk.journal.month)) }
+        ensures run { IfOk result (λ u. run_of life.new ≡ line_run (meaning_in life.old) self.product self.followed (places_in names.now) number line.now (run_of life.old)) }
+        ensures terms { terms_in life.new ≡ terms_in life.old }
     {
         match names.advance(line) {
             Some(Ok(advance)) => self.advance(heap, life, number, advance),
@@ -163,8 +165,8 @@ impl Teller {
         life: &mut Life<T>,
         head: Head<'_>,
     ) -> Result<(), AllocError>
-        ensures run { IfOk result (λ u. run_at (string_bytes life.new.text) life.new.desk.journal.book.tables life.new.desk.journal.entries.items ≡ rows_run (T.meaning life.old.desk.journal.book.terms) self.product self.followed head.entry.names.places (head.entry.rows.line + 1) (lines_from head.entry.rows.at head.entry.rows.bytes.now) (run_at (string_bytes life.old.text) life.old.desk.journal.book.tables life.old.desk.journal.entries.items)) }
-        ensures same { IfOk result (λ u. (life.new.desk.journal.book.terms ≡ life.old.desk.journal.book.terms) × (life.new.desk.journal.month ≡ life.old.desk.journal.month)) }
+        ensures run { IfOk result (λ u. run_of life.new ≡ rows_run (meaning_in life.old) self.product self.followed (places_in head.entry.names) (lines_read head.entry.rows + 1) (lines_left head.entry.rows) (run_of life.old)) }
+        ensures terms { terms_in life.new ≡ terms_in life.old }
     {
         let Head { names, mut rows } = head;
         while let Some(line) = rows.next_line() {
@@ -173,16 +175,17 @@ impl Teller {
         Ok(())
     }
 
-    // A whole sheet, of any length: its calls are made at the desk, and told behind what was told before.
+    /// A whole sheet, of any length: its calls are made at the desk, and told behind what was told before. The law of the
+    /// ledger held at the start and after each call of the whole history, also where memory runs out.
     pub fn tell<T: Terms>(
         self,
         heap: Global,
         life: &mut Life<T>,
         sheet: &[u8],
     ) -> Result<(), AllocError>
-        ensures run { IfOk result (λ u. run_at (string_bytes life.new.text) life.new.desk.journal.book.tables life.new.desk.journal.entries.items ≡ sheet_run (T.meaning life.old.desk.journal.book.terms) self.product self.followed sheet.now (run_at (string_bytes life.old.text) life.old.desk.journal.book.tables life.old.desk.journal.entries.items)) }
-        ensures law { IfOk result (λ u. ∥ Lived (T.meaning life.old.desk.journal.book.terms) life.old.desk.journal.month life.new.desk.journal.entries.items life.new.desk.journal.book.tables ∥₁) }
-        ensures same { IfOk result (λ u. (life.new.desk.journal.book.terms ≡ life.old.desk.journal.book.terms) × (life.new.desk.journal.month ≡ life.old.desk.journal.month)) }
+        ensures run { IfOk result (λ u. run_of life.new ≡ run_told self life.old sheet.now) }
+        ensures law { ∥ Lives life.new.desk.journal ∥₁ }
+        ensures terms { terms_in life.new ≡ terms_in life.old }
     {
         match headed(sheet) {
             Ok(head) => self.rows(heap, life, head),
@@ -195,9 +198,10 @@ impl Teller {
             }
         }
     }
-    // The law of the ledger in figures, where an account is followed, behind what was told before.
+
+    /// The law of the ledger in figures, where an account is followed, behind what was told before.
     pub fn reckon<T: Terms>(self, life: &mut Life<T>) -> Result<(), AllocError>
-        ensures text { IfOk result (λ u. string_bytes life.new.text ≡ string_bytes life.old.text ++ reckoned_text (T.meaning life.old.desk.journal.book.terms) life.old.desk.journal.month life.old.desk.journal.entries.items life.old.desk.journal.book.tables self.followed) }
+        ensures text { IfOk result (λ u. string_bytes life.new.text ≡ text_reckoned self life.old) }
         ensures same { life.new.desk ≡ life.old.desk }
     {
         let Some(account) = self.followed else {

@@ -1,6 +1,6 @@
 // The path of an account, written behind what was told before.
 ghost use Rattle.std.specs.Prelude.{◌≡◌, ◌+◌, ◌-◌, ◌<◌, ◌++◌, IfOk, Some, string_bytes};
-ghost use Rattle.book.specs.Tables.{view};
+ghost use Rattle.book.specs.Books.{book_of, meaning_of};
 ghost use Rattle.ledger.specs.State.{quantity_now};
 ghost use Rattle.ledger.specs.Questions.{margins_refusal, margins as margins_of};
 ghost use Rattle.life.specs.Paths.{amount_or_blank, unless_refused, span_written, holding_written, account_row, position_row, class_row, path_text, followed_text};
@@ -89,45 +89,45 @@ pub(crate) struct Path<'a, T: Terms> {
 
 // The last price of a class, if it has one.
 fn last_price<T: Terms>(book: &Book<T>, class: u32) -> Option<i128>
-    ensures { result ≡ (view book.now.tables).last class }
+    ensures { result ≡ (book_of book.now).market.last class }
 {
     book.last_price(class).map(i128::from)
 }
 
 impl<T: Terms> Path<'_, T> {
     fn cash(&self) -> i64
-        requires { self.now.account < (view self.now.book.now.tables).accounts }
-        ensures { result ≡ (view self.now.book.now.tables).cash self.now.account }
+        requires { self.now.account < (book_of self.now.book.now).made.accounts }
+        ensures { result ≡ ((book_of self.now.book.now).rows self.now.account).cash }
     {
         self.book.cash(self.account).unwrap_or(0)
     }
 
     // The margins, unless they are refused.
     fn margins(&self) -> Option<i128>
-        ensures { result ≡ unless_refused (margins_refusal (T.meaning self.now.book.now.terms) (view self.now.book.now.tables) self.now.account) (margins_of (T.meaning self.now.book.now.terms) self.now.book.now.tables.lines (view self.now.book.now.tables) self.now.account) }
+        ensures { result ≡ unless_refused (margins_refusal (meaning_of self.now.book.now) (book_of self.now.book.now) self.now.account) (margins_of (meaning_of self.now.book.now) (book_of self.now.book.now) self.now.account) }
     {
         self.book.margins(self.account).ok()
     }
 
     // The lots in a class.
     fn lots(&self, class: u32) -> i32
-        requires { (self.now.account < (view self.now.book.now.tables).accounts) × (class < (T.meaning self.now.book.now.terms).classes) }
-        ensures { result ≡ (view self.now.book.now.tables).lots self.now.account class }
+        requires { (self.now.account < (book_of self.now.book.now).made.accounts) × (class < (meaning_of self.now.book.now).classes) }
+        ensures { result ≡ ((book_of self.now.book.now).rows self.now.account).lots class }
     {
         self.book.holding(self.account, class).unwrap_or(0)
     }
 
     // The quantity of one lot in a class.
     fn quantity(&self, class: u32) -> u32
-        ensures { result ≡ quantity_now (T.meaning self.now.book.now.terms) (view self.now.book.now.tables) class }
+        ensures { result ≡ quantity_now (meaning_of self.now.book.now) (book_of self.now.book.now) class }
     {
         terms::quantity_of(self.book.terms(), self.book.day(), class)
     }
 
     // The row of the account.
     fn write_account(&self, text: &mut String) -> Result<(), AllocError>
-        requires { self.now.account < (view self.now.book.now.tables).accounts }
-        ensures { IfOk result (λ u. string_bytes text.new ≡ string_bytes text.old ++ account_row (T.meaning self.now.book.now.terms) self.now.product self.now.book.now.tables self.now.account) }
+        requires { self.now.account < (book_of self.now.book.now).made.accounts }
+        ensures { IfOk result (λ u. string_bytes text.new ≡ string_bytes text.old ++ account_row (meaning_of self.now.book.now) self.now.product (book_of self.now.book.now) self.now.account) }
     {
         let day = IsoDay {
             day: self.book.day(),
@@ -148,7 +148,7 @@ impl<T: Terms> Path<'_, T> {
         months: Months,
         lots: i32,
     ) -> Result<(), AllocError>
-        ensures { IfOk result (λ u. string_bytes text.new ≡ string_bytes text.old ++ position_row (T.meaning self.now.book.now.terms) self.now.product self.now.book.now.tables class months lots) }
+        ensures { IfOk result (λ u. string_bytes text.new ≡ string_bytes text.old ++ position_row (meaning_of self.now.book.now) self.now.product (book_of self.now.book.now) class months lots) }
     {
         let day = IsoDay {
             day: self.book.day(),
@@ -165,8 +165,8 @@ impl<T: Terms> Path<'_, T> {
 
     // The row of a class, if the account holds lots in it.
     fn write_class(&self, text: &mut String, class: u32) -> Result<(), AllocError>
-        requires { (self.now.account < (view self.now.book.now.tables).accounts) × (class < (T.meaning self.now.book.now.terms).classes) }
-        ensures { IfOk result (λ u. string_bytes text.new ≡ string_bytes text.old ++ class_row (T.meaning self.now.book.now.terms) self.now.product self.now.book.now.tables self.now.account class) }
+        requires { (self.now.account < (book_of self.now.book.now).made.accounts) × (class < (meaning_of self.now.book.now).classes) }
+        ensures { IfOk result (λ u. string_bytes text.new ≡ string_bytes text.old ++ class_row (meaning_of self.now.book.now) self.now.product (book_of self.now.book.now) self.now.account class) }
     {
         let lots = self.lots(class);
         if lots == 0 {
@@ -180,8 +180,8 @@ impl<T: Terms> Path<'_, T> {
 
     // The rows of all classes.
     fn write_classes(&self, text: &mut String) -> Result<(), AllocError>
-        requires { self.now.account < (view self.now.book.now.tables).accounts }
-        ensures { IfOk result (λ u. string_bytes text.new ≡ string_bytes text.old ++ flat_map (class_row (T.meaning self.now.book.now.terms) self.now.product self.now.book.now.tables self.now.account) (range_with_len 0 (T.meaning self.now.book.now.terms).classes)) }
+        requires { self.now.account < (book_of self.now.book.now).made.accounts }
+        ensures { IfOk result (λ u. string_bytes text.new ≡ string_bytes text.old ++ flat_map (class_row (meaning_of self.now.book.now) self.now.product (book_of self.now.book.now) self.now.account) (range_with_len 0 (meaning_of self.now.book.now).classes)) }
     {
         for class in 0..self.book.terms().classes() {
             self.write_class(text, class)?;
@@ -192,8 +192,8 @@ impl<T: Terms> Path<'_, T> {
     // The row of the account and those of its classes.
     #[tactic(auto, unfolding(crate::specs::Paths::path_text))]
     fn write_known(&self, text: &mut String) -> Result<(), AllocError>
-        requires { self.now.account < (view self.now.book.now.tables).accounts }
-        ensures { IfOk result (λ u. string_bytes text.new ≡ string_bytes text.old ++ path_text (T.meaning self.now.book.now.terms) self.now.product self.now.book.now.tables self.now.account) }
+        requires { self.now.account < (book_of self.now.book.now).made.accounts }
+        ensures { IfOk result (λ u. string_bytes text.new ≡ string_bytes text.old ++ path_text (meaning_of self.now.book.now) self.now.product (book_of self.now.book.now) self.now.account) }
     {
         self.write_account(text)?;
         self.write_classes(text)
@@ -201,7 +201,7 @@ impl<T: Terms> Path<'_, T> {
 
     // The path, if the book has the account.
     pub(crate) fn write(&self, text: &mut String) -> Result<(), AllocError>
-        ensures { IfOk result (λ u. string_bytes text.new ≡ string_bytes text.old ++ followed_text (T.meaning self.now.book.now.terms) self.now.product self.now.book.now.tables (Some self.now.account)) }
+        ensures { IfOk result (λ u. string_bytes text.new ≡ string_bytes text.old ++ followed_text (meaning_of self.now.book.now) self.now.product (book_of self.now.book.now) (Some self.now.account)) }
     {
         if self.account >= self.book.accounts() {
             return Ok(());

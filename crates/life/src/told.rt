@@ -1,7 +1,8 @@
 // What is told of one call, written behind what was told before.
-ghost use Rattle.std.specs.Prelude.{◌≡◌, ◌++◌, List, Ok, Err, Result, IfOk, MatchResult, Some, string_bytes, take};
+ghost use Rattle.std.specs.Prelude.{◌≡◌, ◌++◌, List, Ok, Result, IfOk, Some, string_bytes};
 ghost use Rattle.ledger.specs.declared.payment.Payment.{Payment as Paid};
 ghost use Rattle.life.specs.Told.{opening, refusal_told, payer, payment_told, margins_told, amount_told, reply_told};
+ghost use Rattle.sheet.specs.Replies.{Tells};
 ghost use Rattle.sheet.specs.declared.cause.Cause.{Cause as Why};
 ghost use Rattle.std.specs.List.{flat_map};
 
@@ -123,7 +124,7 @@ impl Opening {
         reply: Result<usize, Cause>,
         list: &[Payment; 32],
     ) -> Result<(), AllocError>
-        ensures { (told : Result (List Paid) Why) → MatchResult reply (λ n. told ≡ Ok (take n list.now)) (λ cause. told ≡ Err cause) → IfOk result (λ u. string_bytes text.new ≡ string_bytes text.old ++ reply_told self.line self.day asked told) }
+        ensures { (told : Result (List Paid) Why) → Tells told reply list.now → IfOk result (λ u. string_bytes text.new ≡ string_bytes text.old ++ reply_told self.line self.day asked told) }
     {
         match reply {
             Ok(count) => self.tell_accepted(text, asked, &list[..count.min(32)]),

@@ -1,16 +1,14 @@
 -- What a call of the book tells. Assumes nothing.
 use Rattle.std.proofs.Common.{◌≡◌, ℕ, ◌<◌, List, [], ◌∷◌, length, take, set, drop, ℤ, Some, None, Ok, Err, Option, Result, MatchResult, refl, sym, ap, ◌∙◌, arith}
-use Rattle.book.specs.Tables.{view}
-use Rattle.book.specs.declared.tables.Tables.{Tables}
-use Rattle.ledger.specs.Calls.{refusal, settle_pay, close_pay}
+use Rattle.ledger.specs.Calls.{refusal, paid}
 use Rattle.ledger.specs.Questions.{list_after, payment_lines, written}
+use Rattle.ledger.specs.State.{State}
 use Rattle.ledger.specs.declared.call.Call.{Call}
 use Rattle.ledger.specs.declared.call.Call.TheVariants.{Trade, Mark, Reprice, Settle, Close}
 use Rattle.ledger.specs.declared.payment.Payment.{Payment}
-use Rattle.ledger.specs.Words.{unless}
-use Rattle.book.specs.Replies.{reply as reply_of_book}
+use Rattle.ledger.specs.Words.{unless, reply as reply_of_book}
 use Rattle.ledger.specs.declared.fault.Fault.{Fault}
-use Rattle.sheet.specs.Replies.{amounts, told}
+use Rattle.sheet.specs.Replies.{amounts, told, Tells}
 use Rattle.sheet.specs.declared.cause.Cause.{Cause}
 use Rattle.std.proofs.lemmas.List.{length-map}
 use Rattle.std.proofs.lemmas.List.FromFn.{length-range_with_len}
@@ -21,32 +19,32 @@ use Rattle.terms.specs.Meaning.{Meaning}
 lines-long : (n : ℕ) (pays : ℕ → ℤ) → length (payment_lines n pays) ≡ n
 lines-long n pays = length-map (range_with_len 0 n) (λ a. record { account = a; cents = pays a }) ∙ length-range_with_len 0 n
 
-module _ (w : Meaning) (t : Tables) where
-  pub settle-long : (k : Call) (f : ℤ) (room : ℕ) → k ≡ Settle f room → t.count ≡ length (amounts w t k)
-  settle-long k f room e = sym (ap (λ k. length (amounts w t k)) e ∙ lines-long t.count (settle_pay w (view t) f))
+module _ (w : Meaning) (s : State) where
+  pub settle-long : (k : Call) (f : ℤ) (room : ℕ) → k ≡ Settle f room → s.made.accounts ≡ length (amounts w s k)
+  settle-long k f room e = sym (ap (λ k. length (amounts w s k)) e ∙ lines-long s.made.accounts (paid w s (Settle f room)))
 
-  pub close-long : (k : Call) (room : ℕ) → k ≡ Close room → t.count ≡ length (amounts w t k)
-  close-long k room e = sym (ap (λ k. length (amounts w t k)) e ∙ lines-long t.count (close_pay w (view t)))
+  pub close-long : (k : Call) (room : ℕ) → k ≡ Close room → s.made.accounts ≡ length (amounts w s k)
+  close-long k room e = sym (ap (λ k. length (amounts w s k)) e ∙ lines-long s.made.accounts (paid w s (Close room)))
 
   at-head : (n : ℕ) (pays : ℕ → ℤ) (list : List Payment) → take (length (payment_lines n pays)) (written list n pays) ≡ payment_lines n pays
   at-head n pays list = take-append_seam (payment_lines n pays) (drop n list)
 
   -- where a call is accepted, what it tells stands at the head of the list
-  pub told-at-head : (k : Call) (list : List Payment) → refusal w (view t) k ≡ None → take (length (amounts w t k)) (list_after w (view t) k list) ≡ amounts w t k
+  pub told-at-head : (k : Call) (list : List Payment) → refusal w s k ≡ None → take (length (amounts w s k)) (list_after w s k list) ≡ amounts w s k
   told-at-head (Trade buyer seller c n p) list e = refl
   told-at-head (Mark c p) list e = refl
   told-at-head (Reprice c p) list e = refl
   told-at-head (Settle f room) list e =
-      ap (λ o. take (length (amounts w t (Settle f room))) (unless o (written list t.count (settle_pay w (view t) f)) list)) e ∙ at-head t.count (settle_pay w (view t) f) list
+      ap (λ o. take (length (amounts w s (Settle f room))) (unless o (written list s.made.accounts (paid w s (Settle f room))) list)) e ∙ at-head s.made.accounts (paid w s (Settle f room)) list
   told-at-head (Close room) list e =
-      ap (λ o. take (length (amounts w t (Close room))) (unless o (written list t.count (close_pay w (view t))) list)) e ∙ at-head t.count (close_pay w (view t)) list
+      ap (λ o. take (length (amounts w s (Close room))) (unless o (written list s.made.accounts (paid w s (Close room))) list)) e ∙ at-head s.made.accounts (paid w s (Close room)) list
 
 not_refused : (o : Option Fault) (paid amounts : List Payment) → told o paid ≡ Ok amounts → o ≡ None
 not_refused None paid amounts e = refl
 not_refused (Some f) paid amounts e = absurd cc
 
 -- what the reply tells stands at the head of the list
-pub replied : (r : Result ℕ Cause) (o : Option Fault) (paid : List Payment) (count : ℕ) (list : List Payment) → MatchResult r (λ n. (told o paid ≡ Ok paid) × (n ≡ count)) (λ cause. told o paid ≡ Err cause) → (o ≡ None → take count list ≡ paid) → MatchResult r (λ n. told o paid ≡ Ok (take n list)) (λ cause. told o paid ≡ Err cause)
+pub replied : (r : Result ℕ Cause) (o : Option Fault) (paid : List Payment) (count : ℕ) (list : List Payment) → MatchResult r (λ n. (told o paid ≡ Ok paid) × (n ≡ count)) (λ cause. told o paid ≡ Err cause) → (o ≡ None → take count list ≡ paid) → Tells (told o paid) r list
 replied (Ok n) o paid count list e head =
     e.0 ∙ ap Ok (sym (ap (λ k. take k list) e.1 ∙ head (not_refused o paid paid e.0)))
 replied (Err cause) o paid count list e head = e

@@ -1,5 +1,6 @@
 pub mod Answers
 pub mod Causes
-pub mod Done
+pub mod Desks
+pub mod Heads
 pub mod Replies
 pub mod Sheets

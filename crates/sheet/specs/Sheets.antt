@@ -1,6 +1,6 @@
 -- A whole sheet: the lines that are written, and what becomes of the book. Assumes nothing.
 use Rattle.std.specs.Prelude.{ℕ, ◌+◌, List, [], ◌∷◌, ◌++◌, Ok, Err, Result, cond, codes, length, nat_le}
-use Rattle.book.specs.declared.tables.Tables.{Tables}
+use Rattle.ledger.specs.State.{State}
 use Rattle.ledger.specs.declared.entry.Entry.{Entry}
 use Rattle.products.specs.declared.product.Product.{Product}
 use Rattle.rows.specs.Columns.{names_of}
@@ -33,45 +33,45 @@ opened sheet = cond (nat_le (length sheet) 65536) (headed (lines sheet)) (Err (r
 
 module _ (w : Meaning) (product : Product) (places : List ℕ) where
   -- the answers, from line n on
-  unfoldable pub rows_text : ℕ → Tables → List (List ℕ) → List ℕ
-  rows_text n t [] = []
-  rows_text n t (row ∷ rows) =
-      reply_text n (reply w t (request product places row)) ++ rows_text (n + 1) (left w t (request product places row)) rows
+  unfoldable pub rows_text : ℕ → State → List (List ℕ) → List ℕ
+  rows_text n s [] = []
+  rows_text n s (row ∷ rows) =
+      reply_text n (reply w s (request product places row)) ++ rows_text (n + 1) (left w s (request product places row)) rows
 
-  -- the book's tables afterwards
-  unfoldable pub rows_tables : Tables → List (List ℕ) → Tables
-  rows_tables t [] = t
-  rows_tables t (row ∷ rows) = rows_tables (left w t (request product places row)) rows
+  -- what the book holds afterwards
+  unfoldable pub rows_state : State → List (List ℕ) → State
+  rows_state s [] = s
+  rows_state s (row ∷ rows) = rows_state (left w s (request product places row)) rows
 
   -- the calls that reach the book, with their answers
-  unfoldable pub rows_entries : Tables → List (List ℕ) → List Entry
-  rows_entries t [] = []
-  rows_entries t (row ∷ rows) =
-      noted w t (request product places row) ++ rows_entries (left w t (request product places row)) rows
+  unfoldable pub rows_entries : State → List (List ℕ) → List Entry
+  rows_entries s [] = []
+  rows_entries s (row ∷ rows) =
+      noted w s (request product places row) ++ rows_entries (left w s (request product places row)) rows
 
 -- ---- the sheet
 
-module _ (w : Meaning) (product : Product) (t : Tables) where
-  abbrev pub body : Result (List ℕ × List (List ℕ)) LineFault → List ℕ
-  body (Err fault) = answer_line (refused fault)
-  body (Ok s) = rows_text w product s.0 2 t s.1
+module _ (w : Meaning) (product : Product) (s : State) where
+  abbrev pub body_text : Result (List ℕ × List (List ℕ)) LineFault → List ℕ
+  body_text (Err fault) = answer_line (refused fault)
+  body_text (Ok head) = rows_text w product head.0 2 s head.1
 
-  abbrev pub tables_after : Result (List ℕ × List (List ℕ)) LineFault → Tables
-  tables_after (Err fault) = t
-  tables_after (Ok s) = rows_tables w product s.0 t s.1
+  abbrev pub body_state : Result (List ℕ × List (List ℕ)) LineFault → State
+  body_state (Err fault) = s
+  body_state (Ok head) = rows_state w product head.0 s head.1
 
-  abbrev pub entries_of : Result (List ℕ × List (List ℕ)) LineFault → List Entry
-  entries_of (Err fault) = []
-  entries_of (Ok s) = rows_entries w product s.0 t s.1
+  abbrev pub body_entries : Result (List ℕ × List (List ℕ)) LineFault → List Entry
+  body_entries (Err fault) = []
+  body_entries (Ok head) = rows_entries w product head.0 s head.1
 
   -- the answers to a sheet: a names line, and then the answer lines
   abbrev pub sheet_text : List ℕ → List ℕ
-  sheet_text sheet = codes "line,refusal,account,amount\n" ++ body (opened sheet)
+  sheet_text sheet = codes "line,refusal,account,amount\n" ++ body_text (opened sheet)
 
-  -- the book's tables after a sheet
-  abbrev pub sheet_tables : List ℕ → Tables
-  sheet_tables sheet = tables_after (opened sheet)
+  -- what the book holds after a sheet
+  abbrev pub sheet_state : List ℕ → State
+  sheet_state sheet = body_state (opened sheet)
 
   -- the calls of a sheet that reach the book, with their answers
   abbrev pub sheet_entries : List ℕ → List Entry
-  sheet_entries sheet = entries_of (opened sheet)
+  sheet_entries sheet = body_entries (opened sheet)

@@ -6,8 +6,8 @@ use crate::cause::LineFault;
 use ledger::Payment;
 use std::fmt;
 
-// The number of the line that is answered, the number of the question answered no, or 0, and an account with its cents,
-// where the answer tells one.
+/// The number of the line that is answered, the number of the question answered no, or 0, and an account with its cents,
+/// where the answer tells one.
 #[derive(Clone, Copy, PartialEq, Eq, Debug)]
 pub struct Answer {
     pub line: usize,
@@ -16,7 +16,7 @@ pub struct Answer {
 }
 
 impl Answer {
-    // The answer to a line that is refused.
+    /// The answer to a line that is refused.
     pub fn refused(fault: LineFault) -> Answer
         ensures { result ≡ refused fault }
     {
@@ -27,7 +27,7 @@ impl Answer {
         }
     }
 
-    // The answer to a line that is accepted.
+    /// The answer to a line that is accepted.
     pub fn accepted(line: usize, amount: Option<Payment>) -> Answer
         ensures { result ≡ accepted line amount }
     {

@@ -6,14 +6,14 @@ ghost use Rattle.sheet.specs.declared.cause.Cause.TheVariants.{Sheet, Book};
 use ledger::Fault;
 use rows::SheetFault;
 
-// The layer whose question was answered no.
+/// The layer whose question was answered no.
 #[derive(Clone, Copy, PartialEq, Eq, Debug)]
 pub enum Layer {
     Sheet,
     Book,
 }
 
-// A fault of the sheet, or one of the book, which is carried whole.
+/// A fault of the sheet, or one of the book, which is carried whole.
 #[derive(Clone, Copy, PartialEq, Eq, Debug)]
 pub enum Cause {
     Sheet(SheetFault),
@@ -36,7 +36,7 @@ impl From<Fault> for Cause {
     }
 }
 
-// A fault keeps its number and its layer, which are those of its cause, and its line.
+/// A fault keeps its number and its layer, which are those of its cause, and its line.
 #[derive(Clone, Copy, PartialEq, Eq, Debug)]
 pub struct LineFault {
     pub line: usize,
@@ -44,14 +44,14 @@ pub struct LineFault {
 }
 
 impl Cause {
-    // The fault of a line.
+    /// The fault of a line.
     pub fn at(self, line: usize) -> LineFault
         ensures { result ≡ record { line = line; cause = self } }
     {
         LineFault { line, cause: self }
     }
 
-    // The number of the question.
+    /// The number of the question.
     pub fn number(self) -> u8
         ensures { result ≡ cause_number self }
     {
@@ -61,6 +61,7 @@ impl Cause {
         }
     }
 
+    /// The layer whose question it is.
     pub fn layer(self) -> Layer
         ensures { result ≡ cause_layer self }
     {

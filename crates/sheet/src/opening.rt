@@ -1,8 +1,10 @@
 // The head of a sheet: its length and its names line.
-ghost use Rattle.std.specs.Prelude.{◌≡◌, Ok, Err, MatchResult};
+ghost use Rattle.std.specs.Prelude.{◌≡◌, Ok, Err, IfOk, IfErr};
+ghost use Rattle.sheet.specs.Heads.{head_of};
 ghost use Rattle.sheet.specs.Sheets.{headed, opened};
 ghost use Rattle.sheet.specs.declared.cause.Cause.TheVariants.{Sheet};
-ghost use Rattle.text.specs.Lines.{lines, lines_from};
+ghost use Rattle.text.specs.Lines.{lines};
+ghost use Rattle.text.specs.Readers.{lines_read};
 
 use crate::cause::{Cause, LineFault};
 use rows::{Names, SheetFault};
@@ -11,7 +13,7 @@ use text::Reader;
 // How many bytes a sheet may have.
 const MOST_BYTES: usize = 65_536;
 
-// Where the columns stand, and the reader of the lines below the names line.
+/// Where the columns stand, and the reader of the lines below the names line.
 #[derive(Drop)]
 pub struct Head<'a> {
     pub names: Names,
@@ -25,9 +27,11 @@ fn fault_at(fault: SheetFault, line: usize) -> LineFault
     Cause::from(fault).at(line)
 }
 
-// The head of a sheet of any length: its names line, or why it has none.
+/// The head of a sheet of any length: its names line, or why it has none.
 pub fn headed(sheet: &[u8]) -> Result<Head<'_>, LineFault>
-    ensures { MatchResult result (λ o. (headed (lines sheet.now) ≡ Ok (o.names.places, lines_from o.rows.at o.rows.bytes.now)) × (o.rows.line ≡ 1)) (λ fault. headed (lines sheet.now) ≡ Err fault) }
+    ensures head { IfOk result (λ o. headed (lines sheet.now) ≡ Ok (head_of o)) }
+    ensures first { IfOk result (λ o. lines_read o.rows ≡ 1) }
+    ensures fault { IfErr result (λ fault. headed (lines sheet.now) ≡ Err fault) }
 {
     let mut rows = Reader::new(sheet);
     let Some(line) = rows.next_line() else {
@@ -41,7 +45,9 @@ pub fn headed(sheet: &[u8]) -> Result<Head<'_>, LineFault>
 
 // The head of a sheet, or why it is refused.
 pub(crate) fn opened(sheet: &[u8]) -> Result<Head<'_>, LineFault>
-    ensures { MatchResult result (λ o. (opened sheet.now ≡ Ok (o.names.places, lines_from o.rows.at o.rows.bytes.now)) × (o.rows.line ≡ 1)) (λ fault. opened sheet.now ≡ Err fault) }
+    ensures head { IfOk result (λ o. opened sheet.now ≡ Ok (head_of o)) }
+    ensures first { IfOk result (λ o. lines_read o.rows ≡ 1) }
+    ensures fault { IfErr result (λ fault. opened sheet.now ≡ Err fault) }
 {
     if sheet.len() > MOST_BYTES {
         return Err(fault_at(SheetFault::TooLong, 0));

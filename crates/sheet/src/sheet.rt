@@ -1,8 +1,10 @@
 // A whole sheet.
 ghost use Rattle.std.specs.Prelude.{◌≡◌, ◌+◌, ◌++◌, IfOk, string_bytes};
-ghost use Rattle.journal.specs.Lived.{Lived};
-ghost use Rattle.sheet.specs.Sheets.{rows_text, rows_tables, rows_entries, sheet_text, sheet_tables, sheet_entries};
-ghost use Rattle.text.specs.Lines.{lines_from};
+ghost use Rattle.journal.specs.Journals.{terms_of, state_of, entries_of, Lives};
+ghost use Rattle.rows.specs.Headings.{places_in};
+ghost use Rattle.sheet.specs.Desks.{terms_at, meaning_at, state_at, entries_at, text_after, state_after, entries_after};
+ghost use Rattle.sheet.specs.Sheets.{rows_text, rows_state, rows_entries};
+ghost use Rattle.text.specs.Readers.{lines_left, lines_read};
 
 use crate::answer::Answer;
 use crate::desk::Desk;
@@ -13,7 +15,7 @@ use products::Product;
 use std::alloc::{AllocError, Global};
 use terms::Terms;
 
-// The answers to a sheet, and the journal of the book at which its lines were called.
+/// The answers to a sheet, and the journal of the book at which its lines were called.
 #[derive(Drop)]
 pub struct Answered<T: Terms> {
     pub text: String,
@@ -28,10 +30,10 @@ impl<T: Terms> Desk<T> {
         head: Head<'_>,
         text: &mut String,
     ) -> Result<(), AllocError>
-        ensures text { IfOk result (λ u. string_bytes text.new ≡ string_bytes text.old ++ rows_text (T.meaning self.old.journal.book.terms) product head.entry.names.places (head.entry.rows.line + 1) self.old.journal.book.tables (lines_from head.entry.rows.at head.entry.rows.bytes.now)) }
-        ensures tables { IfOk result (λ u. self.new.journal.book.tables ≡ rows_tables (T.meaning self.old.journal.book.terms) product head.entry.names.places self.old.journal.book.tables (lines_from head.entry.rows.at head.entry.rows.bytes.now)) }
-        ensures entries { IfOk result (λ u. self.new.journal.entries.items ≡ self.old.journal.entries.items ++ rows_entries (T.meaning self.old.journal.book.terms) product head.entry.names.places self.old.journal.book.tables (lines_from head.entry.rows.at head.entry.rows.bytes.now)) }
-        ensures same { IfOk result (λ u. (self.new.journal.book.terms ≡ self.old.journal.book.terms) × (self.new.journal.month ≡ self.old.journal.month)) }
+        ensures text { IfOk result (λ u. string_bytes text.new ≡ string_bytes text.old ++ rows_text (meaning_at self.old) product (places_in head.entry.names) (lines_read head.entry.rows + 1) (state_at self.old) (lines_left head.entry.rows)) }
+        ensures state { IfOk result (λ u. state_at self.new ≡ rows_state (meaning_at self.old) product (places_in head.entry.names) (state_at self.old) (lines_left head.entry.rows)) }
+        ensures entries { IfOk result (λ u. entries_at self.new ≡ entries_at self.old ++ rows_entries (meaning_at self.old) product (places_in head.entry.names) (state_at self.old) (lines_left head.entry.rows)) }
+        ensures terms { IfOk result (λ u. terms_at self.new ≡ terms_at self.old) }
     {
         let Head { names, mut rows } = head;
         while let Some(line) = rows.next_line() {
@@ -43,7 +45,8 @@ impl<T: Terms> Desk<T> {
     }
 }
 
-// The answers to a sheet whose lines are called on a book; the book goes on from what it had.
+/// The answers to a sheet whose lines are called on a book; the book goes on from what it had. The law of the ledger held at
+/// the start and after each call of its whole history.
 pub fn answer_sheet<T: Terms>(
     heap: Global,
     product: Product,
@@ -52,11 +55,11 @@ pub fn answer_sheet<T: Terms>(
 ) -> Result<Answered<T>, AllocError>
 where
     T: Drop,
-    ensures text { IfOk result (λ a. string_bytes a.text ≡ sheet_text (T.meaning journal.book.terms) product journal.book.tables sheet.now) }
-    ensures book { IfOk result (λ a. a.journal.book.tables ≡ sheet_tables (T.meaning journal.book.terms) product journal.book.tables sheet.now) }
-    ensures history { IfOk result (λ a. a.journal.entries.items ≡ journal.entries.items ++ sheet_entries (T.meaning journal.book.terms) product journal.book.tables sheet.now) }
-    ensures same { IfOk result (λ a. (a.journal.book.terms ≡ journal.book.terms) × (a.journal.month ≡ journal.month)) }
-    ensures law { IfOk result (λ a. ∥ Lived (T.meaning journal.book.terms) journal.month a.journal.entries.items a.journal.book.tables ∥₁) }
+    ensures text { IfOk result (λ a. string_bytes a.text ≡ text_after journal product sheet.now) }
+    ensures state { IfOk result (λ a. state_of a.journal ≡ state_after journal product sheet.now) }
+    ensures entries { IfOk result (λ a. entries_of a.journal ≡ entries_after journal product sheet.now) }
+    ensures terms { IfOk result (λ a. terms_of a.journal ≡ terms_of journal) }
+    ensures law { IfOk result (λ a. ∥ Lives a.journal ∥₁) }
 {
     let mut text = String::new(heap);
     text.push_str("line,refusal,account,amount\n")?;

@@ -1,8 +1,8 @@
 // The answers to a line, written behind those before.
-ghost use Rattle.std.specs.Prelude.{◌≡◌, ◌++◌, List, Ok, Err, Some, Result, IfOk, MatchResult, string_bytes, take};
+ghost use Rattle.std.specs.Prelude.{◌≡◌, ◌++◌, List, Ok, Some, Result, IfOk, string_bytes};
 ghost use Rattle.ledger.specs.declared.payment.Payment.{Payment as Paid};
 ghost use Rattle.sheet.specs.Answers.{answer_line, accepted};
-ghost use Rattle.sheet.specs.Replies.{reply_text};
+ghost use Rattle.sheet.specs.Replies.{reply_text, Tells};
 ghost use Rattle.sheet.specs.declared.cause.Cause.{Cause as Why};
 ghost use Rattle.std.specs.List.{flat_map};
 
@@ -44,7 +44,7 @@ pub(crate) fn write_reply(
     reply: Result<usize, Cause>,
     list: &[Payment; 32],
 ) -> Result<(), AllocError>
-    ensures { (told : Result (List Paid) Why) → MatchResult reply (λ n. told ≡ Ok (take n list.now)) (λ cause. told ≡ Err cause) → IfOk result (λ u. string_bytes text.new ≡ string_bytes text.old ++ reply_text line told) }
+    ensures { (told : Result (List Paid) Why) → Tells told reply list.now → IfOk result (λ u. string_bytes text.new ≡ string_bytes text.old ++ reply_text line told) }
 {
     match reply {
         Ok(count) => write_accepted(text, line, &list[..count.min(32)]),

@@ -1,6 +1,6 @@
 use Rattle.std.proofs.Common.{rules}
-use Rattle.closing.proofs.Loops.{made-by}
 use Rattle.day_sheet.specs.DaySheet.{bench_line}
+use Rattle.terms.proofs.Made.{made-by}
 use Rattle.day_sheet.proofs.bench_book.lines.Goals as goal
 
 pub returns : goal.returns

@@ -1,15 +1,10 @@
-use Rattle.std.proofs.Common.{◌≡◌, string_bytes}
+use Rattle.std.proofs.Common.{◌≡◌}
 use Rattle.life.proofs.Callings.{OnTheWay}
-use Rattle.life.specs.Runs.{run_at}
+use Rattle.life.specs.Lives.{terms_in, meaning_in, run_of}
 use Rattle.life.proofs.life.Teller.advance.Given as goal
 
 abbrev pub invariant-loop : goal.invariant-loop
 invariant-loop g l =
-    let j = l.initial.life.desk.journal in
-    let k = l.life.desk.journal in
-    let w = g.T.Terms.meaning j.book.terms in
-    let start = run_at (string_bytes l.initial.life.text) j.book.tables j.entries.items in
-    let here = run_at (string_bytes l.life.text) k.book.tables k.entries.items in
-    OnTheWay w l.self.product l.self.followed l.line l.advance.price l.counter l.advance.days start here
-    × (k.book.terms ≡ j.book.terms)
-    × (k.month ≡ j.month)
+    let start = l.initial.life in
+    OnTheWay (meaning_in start) l.self.product l.self.followed l.line l.advance.price l.counter l.advance.days (run_of start) (run_of l.life)
+    × (terms_in l.life ≡ terms_in start)

@@ -1,18 +1,18 @@
-use Rattle.std.proofs.Common.{◌≡◌, ◌+◌, length, string_bytes}
-use Rattle.life.specs.Runs.{run_at, rows_run}
-use Rattle.text.specs.Lines.{lines_from}
+use Rattle.std.proofs.Common.{◌≡◌, ◌+◌, length}
+use Rattle.life.specs.Lives.{terms_in, meaning_in, run_of}
+use Rattle.life.specs.Runs.{rows_run}
+use Rattle.rows.specs.Headings.{places_in}
+use Rattle.text.specs.Readers.{lines_left, lines_read}
 use Rattle.life.proofs.life.Teller.rows.Given as goal
 
 abbrev pub invariant-loop-line : goal.invariant-loop-line
 invariant-loop-line g l =
-    let j = l.initial.life.desk.journal in
-    let k = l.life.desk.journal in
-    let w = g.T.Terms.meaning j.book.terms in
-    let start = run_at (string_bytes l.initial.life.text) j.book.tables j.entries.items in
-    let here = run_at (string_bytes l.life.text) k.book.tables k.entries.items in
-    (rows_run w l.self.product l.self.followed l.names.places (l.initial.rows.line + 1) (lines_from l.initial.rows.at l.initial.rows.bytes.now) start ≡ rows_run w l.self.product l.self.followed l.names.places (l.rows.line + 1) (lines_from l.rows.at l.rows.bytes.now) here)
-    × (k.book.terms ≡ j.book.terms)
-    × (k.month ≡ j.month)
+    let start = l.initial.life in
+    let w = meaning_in start in
+    let teller = l.self in
+    let places = places_in l.names in
+    (rows_run w teller.product teller.followed places (lines_read l.initial.rows + 1) (lines_left l.initial.rows) (run_of start) ≡ rows_run w teller.product teller.followed places (lines_read l.rows + 1) (lines_left l.rows) (run_of l.life))
+    × (terms_in l.life ≡ terms_in start)
 
 abbrev pub decreases-loop-line : goal.decreases-loop-line
-decreases-loop-line g l = length (lines_from l.rows.at l.rows.bytes.now)
+decreases-loop-line g l = length (lines_left l.rows)
