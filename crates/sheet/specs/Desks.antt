@@ -1,6 +1,6 @@
 -- What is had at a desk, what a line that is called there is answered and leaves, and what a whole sheet makes of a journal.
 -- Assumes nothing.
-use Rattle.std.specs.Prelude.{◌≡◌, ℕ, List, ◌++◌, Result}
+use Rattle.std.specs.Prelude.{ℕ, List, ◌++◌, Result}
 use Rattle.journal.specs.Journals.{terms_of, meaning_of, state_of, entries_of, room_of}
 use Rattle.journal.specs.declared.journal.Journal.{Journal}
 use Rattle.ledger.specs.State.{State}
