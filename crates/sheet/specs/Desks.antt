@@ -1,6 +1,6 @@
 -- What is had at a desk, what a line that is called there is answered and leaves, and what a whole sheet makes of a journal.
 -- Assumes nothing.
-use Rattle.std.specs.Prelude.{◌≡◌, ℕ, List, ◌++◌, Result}
+use Rattle.std.specs.Prelude.{ℕ, List, ◌++◌, Result}
 use Rattle.journal.specs.Journals.{terms_of, meaning_of, state_of, entries_of, room_of}
 use Rattle.journal.specs.declared.journal.Journal.{Journal}
 use Rattle.ledger.specs.State.{State}
@@ -53,12 +53,12 @@ module _ {T : Type 0} {g : Ghosts T} where
 
 module _ {T : Type 0} {g : Ghosts T} (j : Journal T g) (product : Product) (sheet : List ℕ) where
   -- the answers
-  abbrev pub text_after : List ℕ
-  text_after = sheet_text (meaning_of j) product (state_of j) sheet
+  abbrev pub text_by : List ℕ
+  text_by = sheet_text (meaning_of j) product (state_of j) sheet
 
   -- what the book holds afterwards, and the entries afterwards
-  abbrev pub state_after : State
-  state_after = sheet_state (meaning_of j) product (state_of j) sheet
+  abbrev pub state_by : State
+  state_by = sheet_state (meaning_of j) product (state_of j) sheet
 
-  abbrev pub entries_after : List Entry
-  entries_after = entries_of j ++ sheet_entries (meaning_of j) product (state_of j) sheet
+  abbrev pub entries_by : List Entry
+  entries_by = entries_of j ++ sheet_entries (meaning_of j) product (state_of j) sheet

@@ -2,7 +2,7 @@
 ghost use Rattle.std.specs.Prelude.{◌≡◌, ◌+◌, ◌++◌, IfOk, string_bytes};
 ghost use Rattle.journal.specs.Journals.{terms_of, state_of, entries_of, Lives};
 ghost use Rattle.rows.specs.Headings.{places_in};
-ghost use Rattle.sheet.specs.Desks.{terms_at, meaning_at, state_at, entries_at, text_after, state_after, entries_after};
+ghost use Rattle.sheet.specs.Desks.{terms_at, meaning_at, state_at, entries_at, text_by, state_by, entries_by};
 ghost use Rattle.sheet.specs.Sheets.{rows_text, rows_state, rows_entries};
 ghost use Rattle.text.specs.Readers.{lines_left, lines_read};
 
@@ -55,9 +55,9 @@ pub fn answer_sheet<T: Terms>(
 ) -> Result<Answered<T>, AllocError>
 where
     T: Drop,
-    ensures text { IfOk result (λ a. string_bytes a.text ≡ text_after journal product sheet.now) }
-    ensures state { IfOk result (λ a. state_of a.journal ≡ state_after journal product sheet.now) }
-    ensures entries { IfOk result (λ a. entries_of a.journal ≡ entries_after journal product sheet.now) }
+    ensures text { IfOk result (λ a. string_bytes a.text ≡ text_by journal product sheet.now) }
+    ensures state { IfOk result (λ a. state_of a.journal ≡ state_by journal product sheet.now) }
+    ensures calls { IfOk result (λ a. entries_of a.journal ≡ entries_by journal product sheet.now) }
     ensures terms { IfOk result (λ a. terms_of a.journal ≡ terms_of journal) }
     ensures law { IfOk result (λ a. ∥ Lives a.journal ∥₁) }
 {

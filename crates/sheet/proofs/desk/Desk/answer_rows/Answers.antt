@@ -1,4 +1,4 @@
-use Rattle.std.proofs.Common.{◌≡◌, ◌+◌, ◌++◌, Result, refl, ap, ◌∙◌, subst, string_bytes}
+use Rattle.std.proofs.Common.{◌+◌, ◌++◌, Result, refl, ap, ◌∙◌, subst, string_bytes}
 use Rattle.rows.specs.Headings.{places_in}
 use Rattle.rows.specs.Requests.{request}
 use Rattle.rows.specs.declared.fault.SheetFault.{SheetFault}

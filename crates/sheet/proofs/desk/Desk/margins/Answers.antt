@@ -1,4 +1,4 @@
-use Rattle.std.proofs.Common.{◌≡◌, Ok, take, rules, refl, sym, ap, ◌∙◌, to_z, of_z}
+use Rattle.std.proofs.Common.{◌≡◌, Ok, take, rules, sym, ap, ◌∙◌, to_z, of_z}
 use mir.Syntax.{w128}
 use Rattle.ledger.specs.Questions.{margins_refusal, margins}
 use Rattle.ledger.specs.Words.{reply}
