@@ -1,5 +1,5 @@
 -- The calls of a list, handed over once more as one list. Assumes nothing.
-use Rattle.std.specs.Prelude.{◌≡◌, ℕ, not, List, map, reverse, length, Option, Some, None, ◌==◌}
+use Rattle.std.specs.Prelude.{◌≡◌, ℕ, not, List, map, reverse, length, Option, Some, None, IsSome, ◌==◌}
 use Rattle.coded.specs.declared.class_line.ClassLine.{ClassLine}
 use Rattle.journal.specs.Journals.{meaning_of, state_of, entries_of}
 use Rattle.journal.specs.declared.journal.Journal.{Journal}
@@ -40,6 +40,13 @@ module _ {T : Type 0} {g : Ghosts T} (j : Journal T g) (t : T) (month : ℕ) whe
   -- the question that refuses its make, if one does
   abbrev pub refused : List ClassLine → Option Fault
   refused lines = make_refusal (g.meaning t) (anew lines)
+
+  -- it can be made, or cannot
+  abbrev pub Makes : List ClassLine → Type 0
+  Makes lines = refused lines ≡ None
+
+  abbrev pub Refuses : List ClassLine → Type 0
+  Refuses lines = IsSome (refused lines)
 
   -- handed the calls of the journal, it gives so many of them another answer
   abbrev pub Differ : List ClassLine → ℕ → Type 0

@@ -1,11 +1,15 @@
 -- What is told of a book, and of an account of a journal. Assumes nothing.
-use Rattle.std.specs.Prelude.{ℕ, List}
+use Rattle.std.specs.Prelude.{◌≡◌, ℕ, List, ◌++◌, String, string_bytes}
 use Rattle.book.specs.Books.{book_of, meaning_of as meaning_of_book}
 use Rattle.book.specs.declared.book.Book.{Book}
 use Rattle.journal.specs.Journals.{meaning_of, state_of, history_of}
 use Rattle.journal.specs.declared.journal.Journal.{Journal}
 use Rattle.reckoning.specs.Reckonings.{sums_text, month_text, months_text, cash_text, account_text, known_text}
 use Rattle.terms.specs.declared.terms.Terms.{Ghosts}
+
+-- a text has so much more than before
+abbrev pub Adds : {A : Type 0} → String A → String A → List ℕ → Type 0
+Adds old new more = string_bytes new ≡ string_bytes old ++ more
 
 module _ {T : Type 0} {g : Ghosts T} where
   -- the sums over all accounts of a book

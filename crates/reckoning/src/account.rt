@@ -4,7 +4,7 @@ ghost use Rattle.journal.specs.Journals.{meaning_of, state_of, history_of, unkno
 ghost use Rattle.ledger.specs.History.{net, booked, final};
 ghost use Rattle.ledger.specs.Ledger.{at_last, at_final};
 ghost use Rattle.reckoning.specs.Reckonings.{line, settled_told, place_told, month_told, month_line, cash_told};
-ghost use Rattle.reckoning.specs.Tellings.{month_of, months_of, cash_of, account_of, reckoned};
+ghost use Rattle.reckoning.specs.Tellings.{month_of, months_of, cash_of, account_of, reckoned, Adds};
 
 use iso::IsoMonth;
 use journal::{Journal, Statement};
@@ -264,7 +264,7 @@ pub fn tell_account<T: Terms>(
     journal: &Journal<T>,
     account: u32,
 ) -> Result<(), AllocError>
-    ensures text { IfOk result (λ u. string_bytes text.new ≡ string_bytes text.old ++ reckoned journal.now account) }
+    ensures text { IfOk result (λ u. Adds text.old text.new (reckoned journal.now account)) }
     ensures law { ∥ Lives journal.now ∥₁ }
 {
     let Ok(statement) = journal.statement(account) else {

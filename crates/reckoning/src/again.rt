@@ -1,6 +1,6 @@
 // The calls of a journal, handed over once more as one list.
-ghost use Rattle.std.specs.Prelude.{◌≡◌, IfOk, IfSome, IfNone, IsSome, None};
-ghost use Rattle.reckoning.specs.Again.{answer_number, differing, refused, Differ, Same};
+ghost use Rattle.std.specs.Prelude.{◌≡◌, IfOk, IfSome, IfNone};
+ghost use Rattle.reckoning.specs.Again.{answer_number, differing, Makes, Refuses, Differ, Same};
 
 use book::Book;
 use coded::ClassLine;
@@ -38,8 +38,8 @@ pub fn differing_answers<T: Terms>(
 ) -> Result<Option<usize>, AllocError>
 where
     T: Drop,
-    ensures made { IfOk result (λ o. IfSome o (λ n. refused journal.now terms month lines.now ≡ None)) }
-    ensures refused { IfOk result (λ o. IfNone o (IsSome (refused journal.now terms month lines.now))) }
+    ensures made { IfOk result (λ o. IfSome o (λ n. Makes journal.now terms month lines.now)) }
+    ensures refused { IfOk result (λ o. IfNone o (Refuses journal.now terms month lines.now)) }
     ensures counts { IfOk result (λ o. IfSome o (Differ journal.now terms month lines.now)) }
     ensures same { Same journal.now terms month → IfOk result (λ o. IfSome o (λ n. n ≡ 0)) }
 {
