@@ -1,6 +1,7 @@
 #!/usr/bin/env python3
-# Writes the table of planted bugs in docs/PROMISES.md anew from the crates' must-fail/ folders and the log of a gate's run:
-# tools/edits_table.py LOG. The log has a line for each edit, with the first thing that the prover said.
+# Writes the table of planted bugs in docs/PROMISES.md anew from the crates' must-fail/ folders and the logs of gate runs:
+# tools/edits_table.py LOG.. . A log has a line for each edit that was tried, with the first thing that the prover said; a line of
+# the table whose edit was not tried stays.
 import pathlib
 import re
 import sys
@@ -34,7 +35,12 @@ def refusals(log):
     return said
 
 
-said = refusals(pathlib.Path(sys.argv[1]))
+page = top / "docs" / "PROMISES.md"
+text = page.read_text()
+stood = {line.rsplit(" | ", 1)[0]: line for line in text.splitlines() if line.startswith("| ")}
+said = {}
+for log in sys.argv[1:]:
+    said |= refusals(pathlib.Path(log))
 rows = []
 for crate, layer in LAYERS:
     for edit in sorted((top / "crates" / crate / "must-fail").glob("*.edit")):
@@ -42,10 +48,9 @@ for crate, layer in LAYERS:
         old = [line[5:] for line in lines if line.startswith("old: ")]
         new = [line[5:] for line in lines if line.startswith("new: ")]
         change = ", ".join(f"{cell(a)} → {cell(b)}" for a, b in zip(old, new))
-        refused = said.get((crate, edit.stem), "not in the log")
-        rows.append(f"| {layer} | {edit.stem.replace('_', ' ')} | {change} | {refused} |")
-page = top / "docs" / "PROMISES.md"
-text = page.read_text()
+        row = f"| {layer} | {edit.stem.replace('_', ' ')} | {change}"
+        refused = said.get((crate, edit.stem), "not in the logs")
+        rows.append(stood[row] if row in stood and (crate, edit.stem) not in said else f"{row} | {refused} |")
 head = text[: text.index("| Layer | Bug | Edit |")]
 page.write_text(head + "| Layer | Bug | Edit | Not proved |\n| --- | --- | --- | --- |\n" + "\n".join(rows) + "\n")
 print(len(rows), "edits")
