@@ -98,14 +98,9 @@ impl Account {
             today,
             last,
         } = quotes[class];
-        variation(
-            quantity,
-            today,
-            self.lots[class],
-            last,
-            self.traded[class],
-            self.cost[class],
-        )
+        let lots = self.lots[class];
+        let traded = self.traded[class];
+        variation(quantity, today, lots, last, traded, self.cost[class])
     }
 
     /// The variation margin of so many classes together.
@@ -174,11 +169,8 @@ impl Account {
         ensures is { result ≡ if_z ((day_in day.now).part class part) ((row_of self.now).lots class) }
         ensures bound { unsigned_abs result ≤ 1000 }
     {
-        if day.is_part(class, part) {
-            self.lots[class]
-        } else {
-            0
-        }
+        let given = self.lots[class];
+        if day.is_part(class, part) { given } else { 0 }
     }
 
     // What a class gets of the classes of which it is a part.

@@ -1,6 +1,6 @@
 // Sums and products that fit 64 bits, by the ranges of lots, prices and quantities.
 ghost use Rattle.std.specs.Prelude.{◌≡◌, ◌≤◌, true, pos, ◌+ℤ◌, ◌-ℤ◌, ◌*ℤ◌, neg_ℤ, unsigned_abs};
-ghost use Rattle.amounts.specs.Amounts.{variation as variation_of};
+ghost use Rattle.amounts.specs.Amounts.{variation as variation_of, OtherSidePays};
 ghost use Rattle.ledger.specs.Calls.{lots_fit, cash_fits};
 
 /// Whether lots of a class stay within what an account may hold, long and short.
@@ -87,7 +87,7 @@ fn gain(today: i32, lots: i32, last: i32, traded: i32) -> i64
     worth(today, i64::from(lots)) - worth(last, before)
 }
 
-/// The variation margin of lots in a class.
+/// The variation margin of lots in a class. What one side is paid, the other pays.
 pub(crate) fn variation(
     quantity: u32,
     today: i32,
@@ -102,6 +102,7 @@ pub(crate) fn variation(
     requires cost { unsigned_abs cost ≤ 10000000000000 }
     ensures is { result ≡ variation_of quantity today lots last traded cost }
     ensures bound { unsigned_abs result ≤ 178802682000000000 }
+    ensures other_side { OtherSidePays }
 {
     times(quantity, gain(today, lots, last, traded) - cost)
 }
@@ -115,12 +116,13 @@ fn whole_quantity(quantity: u32, lots: i32) -> i64
     i64::from(quantity) * i64::from(lots)
 }
 
-/// What lots gain as their price moves: what a part or a final settlement pays.
+/// What lots gain as their price moves: what a part or a final settlement pays. What one side is paid, the other pays.
 pub(crate) fn price_move(quantity: u32, lots: i32, new: i32, old: i32) -> i64
     requires lots { (quantity ≤ 8940) × (unsigned_abs lots ≤ 1000) }
     requires prices { (unsigned_abs new ≤ 100000) × (unsigned_abs old ≤ 100000) }
     ensures is { result ≡ pos quantity *ℤ lots *ℤ (new -ℤ old) }
     ensures bound { unsigned_abs result ≤ 1788000000000 }
+    ensures other_side { OtherSidePays }
 {
     whole_quantity(quantity, lots) * (i64::from(new) - i64::from(old))
 }

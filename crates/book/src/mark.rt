@@ -54,10 +54,10 @@ impl<T: Terms> Store<T> {
         if !self.is_repriceable(class) {
             return Err(Fault::NotRepriceable);
         }
-        let Some(price) = Price::new(price) else {
+        let Some(repriced) = Price::new(price) else {
             return Err(Fault::PriceOutOfRange);
         };
-        reprice(&mut self.tables.prices, class, price);
+        reprice(&mut self.tables.prices, class, repriced);
         Ok(())
     }
 }

@@ -23,6 +23,40 @@ pub(crate) const UNPRICED: Prices = Prices {
     repriced: None,
 };
 
+impl Prices {
+    ghost use Rattle.std.specs.Prelude.{◌≡◌, Some, None};
+
+    /// These with the day's price; a later one replaces an earlier one.
+    pub(crate) fn marked(self, price: Price) -> Self
+        ensures { result ≡ record self { today = Some price } }
+    {
+        Prices {
+            today: Some(price),
+            ..self
+        }
+    }
+
+    /// These with a new price for margins only.
+    pub(crate) fn repriced(self, price: Price) -> Self
+        ensures { result ≡ record self { repriced = Some price } }
+    {
+        Prices {
+            repriced: Some(price),
+            ..self
+        }
+    }
+
+    /// These once the class was finally settled: it has neither a last price nor a repricing.
+    pub(crate) fn settled(self) -> Self
+        ensures { result ≡ record self { last = None; repriced = None } }
+    {
+        Prices {
+            today: self.today,
+            ..UNPRICED
+        }
+    }
+}
+
 impl Price {
     ghost use Rattle.std.specs.Prelude.{◌≡◌, ◌≤◌, is_some, IfSome, unsigned_abs};
     ghost use Rattle.book.specs.Markets.{cents_in};

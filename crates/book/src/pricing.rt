@@ -10,7 +10,8 @@ pub(crate) fn mark(prices: &mut [Prices; 12], class: u32, price: Price)
     requires { class < 12 }
     ensures { (d n : ℕ) → market_of d n prices.new ≡ record (market_of d n prices.old) { today = put (market_of d n prices.old).today class (Some price.cents) } }
 {
-    prices[class as usize].today = Some(price);
+    let here = prices[class as usize];
+    prices[class as usize] = here.marked(price);
 }
 
 /// A new price of a class, for margins only.
@@ -18,7 +19,8 @@ pub(crate) fn reprice(prices: &mut [Prices; 12], class: u32, price: Price)
     requires { class < 12 }
     ensures { (d n : ℕ) → market_of d n prices.new ≡ record (market_of d n prices.old) { repriced = put (market_of d n prices.old).repriced class (Some price.cents) } }
 {
-    prices[class as usize].repriced = Some(price);
+    let here = prices[class as usize];
+    prices[class as usize] = here.repriced(price);
 }
 
 /// A class that was finally settled has neither a last price nor a repricing.
@@ -26,10 +28,6 @@ pub(crate) fn settle(prices: &mut [Prices; 12], class: u32)
     requires { class < 12 }
     ensures { (d n : ℕ) → market_of d n prices.new ≡ record (market_of d n prices.old) { last = put (market_of d n prices.old).last class None; repriced = put (market_of d n prices.old).repriced class None } }
 {
-    let today = prices[class as usize].today;
-    prices[class as usize] = Prices {
-        last: None,
-        today,
-        repriced: None,
-    };
+    let here = prices[class as usize];
+    prices[class as usize] = here.settled();
 }

@@ -1,7 +1,9 @@
 // Terms with the table of one of their days.
 ghost use Rattle.std.specs.Prelude.{◌≡◌, ◌<◌};
 ghost use Rattle.day_table.specs.Table.{classes_of, quantities_of, table_of};
+ghost use Rattle.terms.specs.Heirs.{MonthsFollow};
 ghost use Rattle.terms.specs.Meaning.{class_quantity};
+ghost use Rattle.terms.specs.Quantities.{PartsAndSuccessors};
 
 use crate::reading::{
     Classes, all_stay, next_of, quantities, quantity_at, same_months, some_parts, taken_over,
@@ -52,10 +54,12 @@ pub struct DatedTerms<T: Terms> {
 }
 
 impl<T: Terms> DatedTerms<T> {
-    /// Terms on a day.
+    /// Terms on a day. For all terms, a class with parts has as much as its parts together, and a successor as much as the
+    /// class that it succeeds.
     pub fn new(terms: T, day: u32) -> Self
         ensures terms { result.terms ≡ terms }
         ensures table { result.table ≡ table_of (T.meaning terms) day }
+        ensures quantities { PartsAndSuccessors (T.meaning terms) }
     {
         let table = table_on(&terms, day);
         DatedTerms { terms, table }
@@ -82,10 +86,13 @@ impl<T: Terms> DatedTerms<T> {
         table_with(&self.terms, day, classes, quantity)
     }
 
-    /// Goes to another day of the same terms.
+    /// Goes to another day of the same terms. For all terms, the class to which a month is handed over at the day's close has
+    /// that month on the next open day, and a successor as much as the class that it succeeds: no month is lost.
     pub fn go_to(&mut self, day: u32)
         ensures terms { self.new.terms ≡ self.old.terms }
         ensures table { self.new.table ≡ table_of (T.meaning self.old.terms) day }
+        ensures months { MonthsFollow (T.meaning self.old.terms) }
+        ensures quantities { PartsAndSuccessors (T.meaning self.old.terms) }
     {
         self.table = self.on(day);
     }

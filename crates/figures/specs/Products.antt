@@ -9,10 +9,10 @@ use Rattle.power.specs.Power.{power}
 use Rattle.terms.specs.Meaning.{Meaning}
 use Rattle.wheat.specs.Wheat.{wheat}
 
--- after any accepted make and any history, the law of the ledger holds of a book over these terms, at the start and after
--- each call
+-- after any accepted make and any history, a book over these terms has what it was made with, and the law of the ledger holds
+-- of it, at the start and after each call
 abbrev pub LawHolds : Meaning → Type 0
-LawHolds w = (m : Made) → make_refusal w m ≡ None → (h : History) (s : State) → Reached w m h s → Life w h s
+LawHolds w = (m : Made) → make_refusal w m ≡ None → (h : History) (s : State) → Reached w m h s → (s.made ≡ m) × Life w h s
 
 abbrev pub baseload_terms : (ℕ → Bool) → Meaning
 baseload_terms opens = power opens baseload true

@@ -12,7 +12,7 @@ pub fn figures_stand() -> u8
 }
 
 /// The law of the ledger holds of every book of Baseload, of Peakload and of wheat over the calendar, at the start and
-/// after each call.
+/// after each call, and the book has what it was made with.
 pub fn all_products_stand<C: Calendar>(calendar: &C) -> u8
     ensures { AllProducts (C.opens calendar.now) }
 {

@@ -176,7 +176,7 @@ reached-made w m (e ∷ h) s r = ap (λ (s : State). s.made) r.3 ∙ same-made w
 pub ledger-stands : LedgerStands
 ledger-stands w law m q h s r =
     let e = reached-made w m h s r in
-    record { made = subst (λ m. make_refusal w m ≡ None) (sym e) q; always = subst (λ m. Always w m h s) (sym e) (always w law m q h s r) }
+    (e, record { made = subst (λ m. make_refusal w m ≡ None) (sym e) q; always = subst (λ m. Always w m h s) (sym e) (always w law m q h s r) })
 
 -- ---- what callers use
 
@@ -186,11 +186,11 @@ was-reached w m [] s a = a.0
 was-reached w m (e ∷ h) s a = (a.0, was-reached w m h a.0 a.1, a.2, a.3)
 
 pub begins : (w : Meaning) → Laws w → (m : Made) → make_refusal w m ≡ None → Life w [] (new_state w m)
-begins w law m q = ledger-stands w law m q [] (new_state w m) refl
+begins w law m q = (ledger-stands w law m q [] (new_state w m) refl).1
 
 pub lives-on : (w : Meaning) → Laws w → (s : State) (call : Call) (t : State) → t ≡ after w s call → LivesOn w s call t
 lives-on w law s call t e h l =
-    ledger-stands w law s.made l.made (record { call = call; answer = refusal w s call } ∷ h) t (s, was-reached w s.made h s l.always, refl, e)
+    (ledger-stands w law s.made l.made (record { call = call; answer = refusal w s call } ∷ h) t (s, was-reached w s.made h s l.always, refl, e)).1
 
 -- what stands at the end of a life
 pub stands-now : (w : Meaning) (m : Made) (h : History) (s : State) → Always w m h s → Stands w h s

@@ -90,8 +90,8 @@ pub record Lived (w : Meaning) (s : State) : Type 0 where
 abbrev pub LivesOn : Meaning → State → Call → State → Type 0
 LivesOn w s call t = (h : History) → Life w h s → Life w (record { call = call; answer = refusal w s call } ∷ h) t
 
--- The law holds all along of every book that any accepted make began and any history reached, under all terms that keep their
--- laws.
+-- Every book that any accepted make began and any history reached has the accounts, the month and the class lines that it was
+-- made with, and the law holds of it all along, under all terms that keep their laws.
 abbrev pub LedgerStands : Type 0
 LedgerStands =
-    (w : Meaning) → Laws w → (m : Made) → make_refusal w m ≡ None → (h : History) (s : State) → Reached w m h s → Life w h s
+    (w : Meaning) → Laws w → (m : Made) → make_refusal w m ≡ None → (h : History) (s : State) → Reached w m h s → (s.made ≡ m) × Life w h s

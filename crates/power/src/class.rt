@@ -1,11 +1,11 @@
 // A class, from a day's month and the open days left in it.
 ghost use Rattle.std.specs.Prelude.{◌≡◌, ℕ, ◌<◌, ◌≤◌, if◌then◌else◌};
-ghost use Rattle.power.specs.Classes.{no_parts, cascade};
+ghost use Rattle.power.specs.Classes.{length_of, place_of, earlier, no_parts, cascade};
 ghost use Rattle.power.specs.Monthly.{own_by, turns_by, PeriodOn, class_by};
 ghost use Rattle.terms.specs.Period.{months_in};
 
 use crate::classes::{D01, M01, Q01, Y01, Y02, row};
-use terms::{ClassTerms, DayInMonth, Months, Period};
+use terms::{ClassRow, ClassTerms, DayInMonth, Months, Period};
 
 // Whether a class is a part, class by class from M01 on.
 const Y: bool = true;
@@ -110,29 +110,57 @@ impl Periods {
         ensures { result ≡ class_by self.now.day.month self.now.day.left second_year class }
     {
         let class_row = row(class);
-        let count = class_row.period.months();
         let here = self.for_period(class_row.period);
-        ClassTerms {
-            months: Months {
-                first: count * (here.own + class_row.place - 1),
-                count,
-            },
-            tradable: if class == Y02 {
-                second_year
-            } else {
-                class < D01
-            },
-            interval_class: if class == M01 && self.day.left <= 1 {
-                D01
-            } else {
-                class
-            },
-            parts: parts(class, here.turning),
-            successor: if here.turning {
-                class_row.earlier
-            } else {
-                Some(class)
-            },
-        }
+        class_with(self.day, &class_row, here, second_year, class)
     }
+}
+
+// A class with its row, where `here` is what the day is to the classes of its length.
+fn class_with(
+    day: DayInMonth,
+    class_row: &ClassRow,
+    here: PeriodDay,
+    second_year: bool,
+    class: u32,
+) -> ClassTerms
+    requires class { class < 11 }
+    requires period { months_in class_row.now.period ≡ length_of class }
+    requires place { class_row.now.place ≡ place_of class }
+    requires earlier { class_row.now.earlier ≡ earlier class }
+    requires here { PeriodOn (length_of class) day.month day.left here }
+    ensures { result ≡ class_by day.month day.left second_year class }
+{
+    let count = class_row.period.months();
+    ClassTerms {
+        months: Months {
+            first: count * (here.own + class_row.place - 1),
+            count,
+        },
+        tradable: if class == Y02 {
+            second_year
+        } else {
+            class < D01
+        },
+        interval_class: if class == M01 && day.left <= 1 {
+            D01
+        } else {
+            class
+        },
+        parts: parts(class, here.turning),
+        successor: if here.turning {
+            class_row.earlier
+        } else {
+            Some(class)
+        },
+    }
+}
+
+// One class on a day: what the day is to the classes of its length alone is worked out.
+pub(crate) fn class_at(day: DayInMonth, second_year: bool, class: u32) -> ClassTerms
+    requires { class < 11 }
+    ensures { result ≡ class_by day.month day.left second_year class }
+{
+    let class_row = row(class);
+    let here = period_day(class_row.period, day);
+    class_with(day, &class_row, here, second_year, class)
 }

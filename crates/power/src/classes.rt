@@ -30,8 +30,9 @@ pub(crate) const D01: u32 = 9;
 pub(crate) const D02: u32 = 10;
 
 // The classes, by number. Their places are among the periods of their length, counted from the period before the day's
-// own, and each hands over to the class one place before, if it has one.
-const ROWS: [ClassRow; 11] = [
+// own, and each hands over to the class one place before, if it has one. It is a static, so that a call reads its row where
+// it lies; of a const the whole table would be laid out in each call.
+static ROWS: [ClassRow; 11] = [
     ClassRow {
         name: "M01",
         period: Period::Month,

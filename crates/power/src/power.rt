@@ -5,7 +5,7 @@ ghost use Rattle.power.specs.Monthly.{class_by};
 ghost use Rattle.power.specs.Power.{power};
 ghost use Rattle.power.specs.PowerLaws.{power-laws};
 
-use crate::class::Periods;
+use crate::class::{Periods, class_at};
 use crate::classes::{CLASSES, D02, M01};
 use crate::hours::Profile;
 use calendars::Calendar;
@@ -53,7 +53,7 @@ impl<C: Calendar, P: Profile> Terms for Power<C, P> {
 
     fn class_on(&self, day: u32, class: u32) -> Option<ClassTerms> {
         let day = terms::answered_day(&self.calendar, CLASSES, day, class)?;
-        class_in(&Periods::of(day), self.profile.trades_second_year(), class)
+        Some(class_at(day, self.profile.trades_second_year(), class))
     }
 
     fn classes_on(&self, day: u32) -> [Option<ClassTerms>; 12] {

@@ -17,8 +17,9 @@ const T04: u32 = 3;
 
 pub(crate) const DEL: u32 = 5;
 
-// The classes, by number. A class's place tells how many expiries it stands after the one before T01's.
-const ROWS: [ClassRow; 6] = [
+// The classes, by number. A class's place tells how many expiries it stands after the one before T01's. It is a
+// static, so that a call reads its row where it lies.
+static ROWS: [ClassRow; 6] = [
     ClassRow {
         name: "T01",
         period: Period::Month,

@@ -1,5 +1,5 @@
 // Durum wheat as terms.
-ghost use Rattle.std.specs.Prelude.{◌≡◌, ◌<◌, ◌≤◌, ◌==◌, is_some, IfSome, nat_lt};
+ghost use Rattle.std.specs.Prelude.{◌≡◌, ◌<◌, ◌≤◌, ◌==◌, ◌&&◌, is_some, IfSome, nat_lt};
 ghost use Rattle.dates.specs.Dates.{when};
 ghost use Rattle.terms.specs.Listing.{answers_for};
 ghost use Rattle.wheat.specs.Wheat.{last_day, front_expiry, is_near, class_of_interval, class_from, wheat};
@@ -34,7 +34,16 @@ fn is_near<C: Calendar>(calendar: &C, day: u32, last: u32) -> bool
     true
 }
 
-// What a day is to all classes: T01's expiry, whether its last trading day is near, and whether the day is that.
+// Whether a class is T01 with its last trading day near. No days are counted for another class, which takes its own interval.
+fn is_near_for<C: Calendar>(calendar: &C, day: u32, last: u32, class: u32) -> bool
+    requires { (day < 36525) × (last ≤ 36525) }
+    ensures { result ≡ (class == 0 && is_near (C.opens calendar.now) day last) }
+{
+    class == T01 && is_near(calendar, day, last)
+}
+
+// What a day is to a class: T01's expiry, whether the class is T01 with its last trading day near, and whether the day is that.
+// What it is to T01 serves all classes, since T01 alone reads `near`.
 #[derive(Clone, Copy)]
 struct FrontDay {
     front: u32,
@@ -47,7 +56,7 @@ struct FrontDay {
 fn answered_day<C: Calendar>(calendar: &C, day: u32, class: u32) -> Option<FrontDay>
     ensures answers { is_some result ≡ answers_for (C.opens calendar.now) 6 day class }
     ensures front { IfSome result (λ d. d.front ≡ front_expiry (C.opens calendar.now) day) }
-    ensures near { IfSome result (λ d. d.near ≡ is_near (C.opens calendar.now) day (last_day (C.opens calendar.now) d.front)) }
+    ensures near { IfSome result (λ d. d.near ≡ (class == 0 && is_near (C.opens calendar.now) day (last_day (C.opens calendar.now) d.front))) }
     ensures lasts { IfSome result (λ d. d.lasts ≡ (last_day (C.opens calendar.now) d.front == day)) }
 {
     if !terms::answers_for(calendar, CLASSES, day, class) {
@@ -56,7 +65,7 @@ fn answered_day<C: Calendar>(calendar: &C, day: u32, class: u32) -> Option<Front
     let front = front_expiry(calendar, day)?;
     Some(FrontDay {
         front: front.number,
-        near: is_near(calendar, day, front.last),
+        near: is_near_for(calendar, day, front.last, class),
         lasts: front.last == day,
     })
 }

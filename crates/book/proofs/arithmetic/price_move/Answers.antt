@@ -2,6 +2,7 @@ use Rattle.std.proofs.Common.{◌≡◌, pos, ◌-ℤ◌, ◌*ℤ◌, ap, ◌∙
 use Rattle.std.proofs.lemmas.Int.{ints}
 use Rattle.amounts.proofs.Exact.{Exact, exact}
 use Rattle.amounts.proofs.Ring.{product_le}
+use Rattle.amounts.proofs.PaymentLaws.{other-side-pays}
 use Rattle.book.proofs.arithmetic.price_move.Goals as goal
 
 module _ (c : goal.After-from-2) where
@@ -17,5 +18,6 @@ returns c =
     let n : to_z w32 (of_z w32 c.args.lots) ≡ c.args.lots = omega (arith, ints) in
     record {
       is = e ∙ ap (λ q. q *ℤ (c.args.new -ℤ c.args.old)) (c.whole_quantity.ensures.is ∙ ap (λ n. pos c.args.quantity *ℤ n) n);
+      other_side = other-side-pays;
       bound = rw e (product_le c.whole_quantity.result (c.args.new -ℤ c.args.old) 8940000 200000 c.whole_quantity.ensures.bound (omega (arith, ints)));
     }

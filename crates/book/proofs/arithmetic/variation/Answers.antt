@@ -1,5 +1,6 @@
 use Rattle.std.proofs.Common.{◌≡◌, pos, ◌-ℤ◌, ◌*ℤ◌, ap, ◌∙◌, arith, to_z, of_z, w32, w64}
 use Rattle.std.proofs.lemmas.Int.{ints}
+use Rattle.amounts.proofs.PaymentLaws.{other-side-pays}
 use Rattle.book.proofs.arithmetic.variation.Goals as goal
 
 pub returns-clause-is : goal.returns-clause-is
@@ -12,3 +13,6 @@ returns-clause-is c =
     let less : to_z w64 (of_z w64 (to_z w64 (of_z w64 c.gain.result) -ℤ to_z w64 (of_z w64 c.args.cost))) ≡ c.gain.result -ℤ c.args.cost = omega (arith, ints, c.gain.ensures.bound) in
     let same : to_z w64 (of_z w64 c.times.result) ≡ c.times.result = omega (arith, ints) in
     same ∙ c.times.ensures.is ∙ (λ i. pos c.args.quantity *ℤ (less ∙ ap (λ g. g -ℤ c.args.cost) gain) i)
+
+pub returns-clause-other_side : goal.returns-clause-other_side
+returns-clause-other_side c = other-side-pays

@@ -1,4 +1,4 @@
-use Rattle.std.proofs.Common.{◌<◌, length, refl, ap, arith}
+use Rattle.std.proofs.Common.{◌<◌, length, ap, ◌∙◌, arith}
 use Rattle.std.proofs.lemmas.List.{get_or_default}
 use Rattle.book.proofs.Markets.{no_prices, settled}
 use Rattle.book.specs.declared.prices.Prices.{Prices}
@@ -8,4 +8,6 @@ pub returns : goal.returns
 returns c = λ d n.
     let ps = c.args.prices.now in
     let h : c.args.class < length ps = omega (arith, c.told-prices, c.requires) in
-    settled d n ps c.args.class _ h refl (ap (λ (p : Prices). p.today) (get_or_default ps c.args.class c.index-prices-class.result no_prices h)) refl
+    let m = c.settled.ensures in
+    let e = get_or_default ps c.args.class c.index-prices-class.result no_prices h in
+    settled d n ps c.args.class _ h (ap (λ (p : Prices). p.last) m) (ap (λ (p : Prices). p.today) m ∙ ap (λ (p : Prices). p.today) e) (ap (λ (p : Prices). p.repriced) m)

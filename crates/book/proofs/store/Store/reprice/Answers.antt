@@ -13,6 +13,6 @@ returns-clause-after g c =
     let b = state_in s in
     let p = to_z-of_z w32 c.args.price c.ranges.price in
     let f : price_fits c.args.price ≡ true = sym (c.in-Some.ensures.fits ∙ ap price_fits p) in
-    let v : c.in-Some.price.cents ≡ c.args.price = c.in-Some.ensures.value ∙ p in
+    let v : c.in-Some.repriced.cents ≡ c.args.price = c.in-Some.ensures.value ∙ p in
     (λ i. record b { market = (c.reprice.ensures b.market.day b.market.accepted ∙ ap (λ (x : ℤ). record b.market { repriced = put b.market.repriced c.args.class (Some x) }) v) i })
     ∙ sym (accepted (meaning_in s) b (Reprice c.args.class c.args.price) (reprice-accepted (meaning_in s) b c.args.class c.args.price (sym c.if-not-is_repriceable.ensures.is) f))

@@ -1,11 +1,16 @@
-use Rattle.std.proofs.Common.{sym, ap, ◌∙◌}
-use Rattle.std.proofs.lemmas.Bool.{and_parts}
-use Rattle.power.proofs.Days.{answer-is}
+use Rattle.std.proofs.Common.{Some, sym, ap, ◌∙◌, arith}
+use Rattle.dates.proofs.MonthLaws.{given}
+use Rattle.power.proofs.Days.{class-answer}
+use Rattle.power.specs.Monthly.{class_by}
+use Rattle.terms.proofs.Listings.{is-answered}
 use Rattle.power.proofs.power.PowerTerms.class_on.Goals as goal
 
 pub returns : goal.returns
 returns g c =
+    let f = g.C.Calendar.opens c.args.self.now.calendar in
+    let d = c.args.day in
+    let day = c.in_ok-day.day in
     let told = c.in_ok-day.ensures in
-    let here = c.of.ensures in
-    c.class_in.ensures
-    ∙ answer-is _ _ (g.met.C.Calendar.lawful c.args.self.now.calendar) c.args.day _ _ _ c.trades_second_year.ensures (and_parts _ _ (sym told.answers)).0 (ap (λ x. x.month) here ∙ told.month) (ap (λ x. x.left) here ∙ told.left) c.args.class
+    let a = is-answered f 11 d c.args.class (sym told.answers) in
+    ap Some (c.class_at.ensures ∙ ap (λ b. class_by day.month day.left b c.args.class) c.trades_second_year.ensures)
+    ∙ class-answer f _ d c.args.class day.month day.left (g.met.C.Calendar.lawful c.args.self.now.calendar) a.0 a.1 (given d 36525 _ _ (omega (arith, a.0.to)) told.month) (given d 36525 _ _ (omega (arith, a.0.to)) told.left)
