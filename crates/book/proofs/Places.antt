@@ -21,6 +21,15 @@ read_set xs i k v d h =
     (λ (e : k ≡ i → ⊥). get_or-set_other xs i k v d e ∙ sym (put-there k i v (get_or xs k d) e))
     (cases_eq k i)
 
+-- a row of which one place has x more
+pub more_set : (xs : List ℤ) (c : ℕ) (v x : ℤ) → c < length xs → v ≡ at xs c +ℤ x → (k : ℕ) → at (set xs c v) k ≡ at xs k +ℤ if_z (k == c) x
+more_set xs c v x h e k =
+    read_set xs c k v (pos 0) h
+    ∙ ⊎_elim
+    (λ (z : k ≡ c). put-here k c v (at xs k) z ∙ e ∙ (λ i. at xs (sym z i) +ℤ sym (hit k c x z) i))
+    (λ (z : k ≡ c → ⊥). put-there k c v (at xs k) z ∙ omega (arith, ints, miss k c x z))
+    (cases_eq k c)
+
 -- a row with x more at one place, where y is what the code has for x
 pub more-small : (m : ℕ) (xs ys : List ℤ) (c : ℕ) (x y : ℤ) → y ≡ x → ((k : ℕ) → at ys k ≡ at xs k +ℤ if_z (k == c) y) → nat_abs (at xs c +ℤ x) ≤ m → ((k : ℕ) → nat_abs (at xs k) ≤ m) → (k : ℕ) → nat_abs (at ys k) ≤ m
 more-small m xs ys c x y same more room small k =

@@ -74,6 +74,14 @@ impl Account {
         is_within_limit(lots_with(self.lots(class), lots))
     }
 
+    // The day's trades in a class, in lots, with so many more.
+    fn traded_with(&self, class: u32, lots: i32) -> i32
+        requires { (class < 12) × (unsigned_abs lots ≤ 1000) }
+        ensures { result ≡ (row_of self.now).traded class +ℤ lots }
+    {
+        self.traded[class as usize] + lots
+    }
+
     /// Takes lots of a class at a price; they are negative for a sale.
     pub(crate) fn take(&mut self, class: u32, lots: i32, price: i32)
         requires known { class < 12 }
@@ -81,9 +89,10 @@ impl Account {
         requires room { Room (row_of self.old) class lots price }
         ensures { row_of self.new ≡ row_traded class price lots (row_of self.old) }
     {
+        let traded = self.traded_with(class, lots);
         let cost = cost_of(lots, price);
         add_lots(&mut self.lots, class, lots);
-        add_lots(&mut self.traded, class, lots);
+        self.traded[class as usize] = traded;
         add_cost(&mut self.cost, class, cost);
     }
 
